@@ -1,0 +1,92 @@
+-- The laws of lists over an index.
+use mathlib.Core.Path.{_≡_, refl, sym, _∙_, ap}
+use mathlib.Core.Logic.{⊎-elim}
+use mathlib.Core.Bool.{Bool}
+use mathlib.Core.List.{List, [], _∷_, _++_, map}
+use Prim.Native.Nat.{ℕ, zero, suc, _+_, _-_, _<_, _≤_}
+use native.Mathlib.Omega.{arith}
+use native.Mathlib.Nat.{le-of-suc-le-suc}
+use borrow.Author.Count.{below-more}
+use lib.Dec.{T}
+use lib.ListN.{length, getD, set, take, drop, length-append, length-take, length-drop, length-set, List·getD-append}
+use lib.Seq.{ext-getD, getD-set-same, getD-set-other, getD-take, getD-append-add, length-take-le}
+use Rattle.integers.proofs.Tests.{le-or-lt, and-fst, and-snd}
+use Rattle.integers.specs.Lists.{build, every}
+
+module _ {A : Type 0} where
+  pub length-build : (n : ℕ) (f : ℕ → A) → length (build n f) ≡ n
+  unfolding build
+  length-build zero f = refl
+  length-build (suc n) f = ap suc (length-build n (λ i. f (suc i)))
+
+  pub getD-build : (n : ℕ) (f : ℕ → A) (i : ℕ) (d : A) → i < n → getD (build n f) i d ≡ f i
+  unfolding build
+  getD-build zero f i d h = absurd (omega arith)
+  getD-build (suc n) f zero d h = refl
+  getD-build (suc n) f (suc i) d h = getD-build n (λ i. f (suc i)) i d (le-of-suc-le-suc h)
+
+  -- a list whose elements are f's is the list that f builds
+  pub is-build : (n : ℕ) (f : ℕ → A) (d : A) (xs : List A) → length xs ≡ n → ((i : ℕ) → i < n → getD xs i d ≡ f i) → xs ≡ build n f
+  is-build n f d xs h g =
+      ext-getD d xs (build n f) (h ∙ sym (length-build n f)) (λ i l. let k : i < n = omega arith in g i k ∙ sym (getD-build n f i d k))
+
+  -- what every element passes, each element passes
+  pub every-at : (P : A → Bool) (d : A) (xs : List A) → T (every P xs) → (i : ℕ) → i < length xs → T (P (getD xs i d))
+  every-at P d [] t i h = absurd (omega arith)
+  every-at P d (x ∷ xs) t zero h = and-fst (P x) (every P xs) t
+  every-at P d (x ∷ xs) t (suc i) h = every-at P d xs (and-snd (P x) (every P xs) t) i (le-of-suc-le-suc h)
+
+-- element i of a mapped list, whatever stands for the elements beyond the end
+pub getD-map : {A B : Type 0} (f : A → B) (xs : List A) (i : ℕ) (d : B) (e : A) → i < length xs → getD (map f xs) i d ≡ f (getD xs i e)
+getD-map f [] i d e h = absurd (omega arith)
+getD-map f (x ∷ xs) zero d e h = refl
+getD-map f (x ∷ xs) (suc i) d e h = getD-map f xs i d e (le-of-suc-le-suc h)
+
+-- a list of n elements that is being filled with f 0, f 1, …: the first p of them are f's
+pub record Filled {A : Type 0} (n : ℕ) (f : ℕ → A) (d : A) (p : ℕ) (xs : List A) : Type 0 where
+  pub within : p ≤ n
+  pub long : length xs ≡ n
+  pub right : (i : ℕ) → i < p → getD xs i d ≡ f i
+
+module _ {A : Type 0} (n : ℕ) (f : ℕ → A) (d : A) where
+  pub filled-none : (xs : List A) → length xs ≡ n → Filled n f d 0 xs
+  filled-none xs h = record { within = omega arith; long = h; right = λ i l. absurd (omega arith) }
+
+  -- one element more
+  pub filled-more : (p : ℕ) (xs : List A) (v : A) → p < n → v ≡ f p → Filled n f d p xs → Filled n f d (p + 1) (set xs p v)
+  filled-more p xs v h e r = record {
+    within = omega arith;
+    long = length-set xs p v ∙ r .long;
+    right = below-more (λ i. getD (set xs p v) i d ≡ f i) p
+        (λ i l. getD-set-other xs p i v d (λ q. omega arith) ∙ r .right i l)
+        (getD-set-same xs p v d (omega arith) ∙ e);
+  }
+
+  -- a part of k elements more, which has come back as ys
+  pub filled-part : (p k : ℕ) (xs ys : List A) → p + k ≤ n → length ys ≡ k → ((i : ℕ) → i < k → getD ys i d ≡ f (p + i))
+      → Filled n f d p xs → Filled n f d (p + k) (take p xs ++ (ys ++ drop k (drop p xs)))
+  filled-part p k xs ys h e g r = record {
+    within = h;
+    long = simp (length-append, length-take, length-drop) (omega (arith, r .long));
+    right = λ i l. ⊎-elim (λ (m : p ≤ i). new i m l) (λ (m : i < p). old i m) (le-or-lt p i);
+  }
+    where
+      size : length (take p xs) ≡ p
+      size = length-take-le p xs (omega (arith, r .long))
+
+      old : (i : ℕ) → i < p → getD (take p xs ++ (ys ++ drop k (drop p xs))) i d ≡ f i
+      old i m = List·getD-append (take p xs) (ys ++ drop k (drop p xs)) d i (omega (arith, size)) ∙ getD-take p xs i d m ∙ r .right i m
+
+      new : (i : ℕ) → p ≤ i → i < p + k → getD (take p xs ++ (ys ++ drop k (drop p xs))) i d ≡ f i
+      new i m l =
+          let j : i ≡ length (take p xs) + (i - p) = omega (arith, size) in
+          let q : p + (i - p) ≡ i = omega arith in
+          ap (λ (x : ℕ). getD (take p xs ++ (ys ++ drop k (drop p xs))) x d) j
+          ∙ getD-append-add (take p xs) (ys ++ drop k (drop p xs)) (i - p) d
+          ∙ List·getD-append ys (drop k (drop p xs)) d (i - p) (omega arith)
+          ∙ g (i - p) (omega arith)
+          ∙ ap f q
+
+  -- all of them
+  pub filled-all : (p : ℕ) (xs : List A) → n ≤ p → Filled n f d p xs → xs ≡ build n f
+  filled-all p xs h r = is-build n f d xs (r .long) (λ i l. r .right i (omega arith))

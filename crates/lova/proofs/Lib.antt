@@ -1,0 +1,12 @@
+pub mod Meanings
+pub mod Tests
+pub mod Blocks
+pub mod Gadget
+pub mod Refusals
+pub mod OneFold
+pub mod Honest
+pub mod Exact
+pub mod NeverWraps
+pub mod Theorems
+pub mod Points
+pub mod Examples

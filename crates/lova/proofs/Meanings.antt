@@ -1,0 +1,68 @@
+-- Each case of an answer has its own meaning.
+use mathlib.Core.Path.{_≡_, refl, ap}
+use Prim.Native.Nat.{ℕ}
+use native.Mathlib.Omega.{arith}
+use Rattle.lova.specs.declared.Answer.{Answer}
+use Rattle.lova.specs.declared.Answer.the-variants as Answers
+use Rattle.lova.specs.declared.Verdict.{Verdict}
+use Rattle.lova.specs.declared.Verdict.the-variants as Verdicts
+use Rattle.lova.specs.declared.Membership.{Membership}
+use Rattle.lova.specs.declared.Membership.the-variants as Memberships
+use Rattle.lova.specs.Answers.{Meaning, refused, answerOf, verdictOf, membershipOf}
+
+differ : _≡_ {A = ℕ} 0 1 → ⊥
+differ e = omega arith
+
+pub answerOf-one-to-one : (x y : Answer) → answerOf x ≡ answerOf y → x ≡ y
+unfolding answerOf
+answerOf-one-to-one Answers.Done Answers.Done e = refl
+answerOf-one-to-one Answers.Done (Answers.Refused q) e = absurd (differ (cc))
+answerOf-one-to-one (Answers.Refused r) Answers.Done e = absurd (differ (cc))
+answerOf-one-to-one (Answers.Refused r) (Answers.Refused q) e = ap Answers.Refused (cc)
+
+pub verdictOf-one-to-one : (x y : Verdict) → verdictOf x ≡ verdictOf y → x ≡ y
+unfolding verdictOf
+verdictOf-one-to-one Verdicts.Yes Verdicts.Yes e = refl
+verdictOf-one-to-one Verdicts.Yes Verdicts.Norm e = absurd (differ (cc))
+verdictOf-one-to-one Verdicts.Yes Verdicts.Commitment e = absurd (differ (cc))
+verdictOf-one-to-one Verdicts.Yes (Verdicts.Refused q) e = absurd (differ (cc))
+verdictOf-one-to-one Verdicts.Norm Verdicts.Yes e = absurd (differ (cc))
+verdictOf-one-to-one Verdicts.Norm Verdicts.Norm e = refl
+verdictOf-one-to-one Verdicts.Norm Verdicts.Commitment e = absurd (differ (cc))
+verdictOf-one-to-one Verdicts.Norm (Verdicts.Refused q) e = absurd (differ (cc))
+verdictOf-one-to-one Verdicts.Commitment Verdicts.Yes e = absurd (differ (cc))
+verdictOf-one-to-one Verdicts.Commitment Verdicts.Norm e = absurd (differ (cc))
+verdictOf-one-to-one Verdicts.Commitment Verdicts.Commitment e = refl
+verdictOf-one-to-one Verdicts.Commitment (Verdicts.Refused q) e = absurd (differ (cc))
+verdictOf-one-to-one (Verdicts.Refused r) Verdicts.Yes e = absurd (differ (cc))
+verdictOf-one-to-one (Verdicts.Refused r) Verdicts.Norm e = absurd (differ (cc))
+verdictOf-one-to-one (Verdicts.Refused r) Verdicts.Commitment e = absurd (differ (cc))
+verdictOf-one-to-one (Verdicts.Refused r) (Verdicts.Refused q) e = ap Verdicts.Refused (cc)
+
+pub membershipOf-one-to-one : (x y : Membership) → membershipOf x ≡ membershipOf y → x ≡ y
+unfolding membershipOf
+membershipOf-one-to-one Memberships.Member Memberships.Member e = refl
+membershipOf-one-to-one Memberships.Member Memberships.Long e = absurd (differ (cc))
+membershipOf-one-to-one Memberships.Member Memberships.Products e = absurd (differ (cc))
+membershipOf-one-to-one Memberships.Member Memberships.Commitment e = absurd (differ (cc))
+membershipOf-one-to-one Memberships.Member (Memberships.Refused q) e = absurd (differ (cc))
+membershipOf-one-to-one Memberships.Long Memberships.Member e = absurd (differ (cc))
+membershipOf-one-to-one Memberships.Long Memberships.Long e = refl
+membershipOf-one-to-one Memberships.Long Memberships.Products e = absurd (differ (cc))
+membershipOf-one-to-one Memberships.Long Memberships.Commitment e = absurd (differ (cc))
+membershipOf-one-to-one Memberships.Long (Memberships.Refused q) e = absurd (differ (cc))
+membershipOf-one-to-one Memberships.Products Memberships.Member e = absurd (differ (cc))
+membershipOf-one-to-one Memberships.Products Memberships.Long e = absurd (differ (cc))
+membershipOf-one-to-one Memberships.Products Memberships.Products e = refl
+membershipOf-one-to-one Memberships.Products Memberships.Commitment e = absurd (differ (cc))
+membershipOf-one-to-one Memberships.Products (Memberships.Refused q) e = absurd (differ (cc))
+membershipOf-one-to-one Memberships.Commitment Memberships.Member e = absurd (differ (cc))
+membershipOf-one-to-one Memberships.Commitment Memberships.Long e = absurd (differ (cc))
+membershipOf-one-to-one Memberships.Commitment Memberships.Products e = absurd (differ (cc))
+membershipOf-one-to-one Memberships.Commitment Memberships.Commitment e = refl
+membershipOf-one-to-one Memberships.Commitment (Memberships.Refused q) e = absurd (differ (cc))
+membershipOf-one-to-one (Memberships.Refused r) Memberships.Member e = absurd (differ (cc))
+membershipOf-one-to-one (Memberships.Refused r) Memberships.Long e = absurd (differ (cc))
+membershipOf-one-to-one (Memberships.Refused r) Memberships.Products e = absurd (differ (cc))
+membershipOf-one-to-one (Memberships.Refused r) Memberships.Commitment e = absurd (differ (cc))
+membershipOf-one-to-one (Memberships.Refused r) (Memberships.Refused q) e = ap Memberships.Refused (cc)

@@ -1,0 +1,90 @@
+-- What the tests of the rules and of the verdict say.
+use mathlib.Core.Path.{_≡_, ap}
+use mathlib.Core.Logic.{_↔_, ⊎-elim}
+use mathlib.Core.Bool.{Bool}
+use mathlib.Core.List.{List}
+use Prim.Native.Nat.{ℕ, zero, suc, _<_}
+use native.Mathlib.Omega.{arith}
+use native.Mathlib.Nat.{eq-or-lt-of-le, le-of-suc-le-suc}
+use lib.Dec.{T, eqb, leb→le, le→leb, eqb→eq, eqb-refl}
+use lib.IntN.{ℤ, pos, negsuc}
+use Rattle.integers.proofs.Tests.{and-fst, and-snd, and-both}
+use Rattle.integers.specs.Residues.{word}
+use Rattle.matrices.specs.Matrices.{Matrix, Agree}
+use Rattle.settings.specs.Settings.{Parameters, NOf}
+use Rattle.lova.specs.Tests.{all, every, eqZ, equal, equalWords, short, areTernary, bounded}
+use Rattle.lova.specs.Calls.{Short, Ternary, Bounded}
+
+-- each number below n passes
+all-true : (n : ℕ) (P : ℕ → Bool) → ((i : ℕ) → i < n → T (P i)) → T (all n P)
+unfolding all
+all-true zero P h = tt
+all-true (suc n) P h = and-both (all n P) (P n) (all-true n P (λ i l. h i (omega arith))) (h n (omega arith))
+
+all-elim : (n : ℕ) (P : ℕ → Bool) → T (all n P) → (i : ℕ) → i < n → T (P i)
+unfolding all
+all-elim zero P h i l = absurd (omega arith)
+all-elim (suc n) P h i l = ⊎-elim
+    (λ (e : i ≡ n). rw e (and-snd (all n P) (P n) h))
+    (λ (k : i < n). all-elim n P (and-fst (all n P) (P n) h) i k)
+    (eq-or-lt-of-le (le-of-suc-le-suc l))
+
+-- each entry passes
+pub every-iff : (rows cols : ℕ) (P : ℕ → ℕ → Bool) → T (every rows cols P) ↔ ((i j : ℕ) → i < rows → j < cols → T (P i j))
+unfolding every
+every-iff rows cols P = (
+  (λ h i j hi hj. all-elim cols (λ j. P i j) (all-elim rows _ h i hi) j hj),
+  (λ h. all-true rows _ (λ i hi. all-true cols _ (λ j hj. h i j hi hj))),
+)
+
+-- tests of equality
+pub eqb-iff : (a c : ℕ) → T (eqb a c) ↔ (a ≡ c)
+eqb-iff a c = (eqb→eq a c, λ e. rw (← e) (eqb-refl a))
+
+eqZ-elim : (x y : ℤ) → T (eqZ x y) → x ≡ y
+unfolding eqZ
+eqZ-elim (pos a) (pos c) h = ap pos (eqb→eq a c h)
+eqZ-elim (pos a) (negsuc c) h = absurd h
+eqZ-elim (negsuc a) (pos c) h = absurd h
+eqZ-elim (negsuc a) (negsuc c) h = ap negsuc (eqb→eq a c h)
+
+eqZ-same : (x : ℤ) → T (eqZ x x)
+unfolding eqZ
+eqZ-same (pos a) = eqb-refl a
+eqZ-same (negsuc a) = eqb-refl a
+
+pub eqZ-iff : (x y : ℤ) → T (eqZ x y) ↔ (x ≡ y)
+eqZ-iff x y = (eqZ-elim x y, λ e. rw (← e) (eqZ-same x))
+
+-- two matrices are equal
+pub equal-iff : (rows cols : ℕ) (X Y : Matrix) → T (equal rows cols X Y) ↔ Agree rows cols X Y
+equal-iff rows cols X Y = (
+  (λ h i j hi hj. eqZ-iff (X i j) (Y i j) .0 (every-iff rows cols _ .0 h i j hi hj)),
+  (λ h. every-iff rows cols _ .1 (λ i j hi hj. eqZ-iff (X i j) (Y i j) .1 (h i j hi hj))),
+)
+
+-- two matrices are equal modulo 2^64
+pub equal-words-iff : (rows cols : ℕ) (X Y : Matrix) → T (equalWords rows cols X Y) ↔ Agree rows cols (λ i j. word (X i j)) (λ i j. word (Y i j))
+equal-words-iff rows cols X Y = (
+  (λ h i j hi hj. eqb→eq _ _ (every-iff rows cols _ .0 h i j hi hj)),
+  (λ h. every-iff rows cols _ .1 (λ i j hi hj. eqb-iff _ _ .1 (h i j hi hj))),
+)
+
+-- each entry is at most M in size
+pub bounded-iff : (rows cols M : ℕ) (X : Matrix) → T (bounded rows cols M X) ↔ Bounded rows cols M X
+bounded-iff rows cols M X = (
+  (λ h i j hi hj. leb→le _ _ (every-iff rows cols _ .0 h i j hi hj)),
+  (λ h. every-iff rows cols _ .1 (λ i j hi hj. le→leb _ _ (h i j hi hj))),
+)
+
+module _ (p : Parameters) where
+  pub short-iff : (S : List ℤ) → T (short p S) ↔ Short p S
+  unfolding short
+  short-iff S = ((λ h j hj. leb→le _ _ (all-elim (p .t) _ h j hj)), (λ h. all-true (p .t) _ (λ j hj. le→leb _ _ (h j hj))))
+
+  pub ternary-iff : (C : List ℕ) → T (areTernary p C) ↔ Ternary p C
+  unfolding areTernary
+  ternary-iff C = (
+    (λ h i j hi hj. leb→le _ _ (every-iff (NOf p) (p .t) _ .0 h i j hi hj)),
+    (λ h. every-iff (NOf p) (p .t) _ .1 (λ i j hi hj. le→leb _ _ (h i j hi hj))),
+  )

@@ -1,0 +1,109 @@
+-- Proper calls: an accepted setting, lent slices of the stated lengths, values in the stated ranges.
+use mathlib.Core.Path.{_≡_}
+use mathlib.Core.Logic.{_↔_}
+use mathlib.Core.List.{List}
+use Prim.Native.Nat.{ℕ, _<_, _≤_}
+use lib.IntN.{ℤ, natAbs}
+use lib.ListN.{length}
+use Rattle.matrices.specs.Matrices.{Matrix, squaredLength}
+use Rattle.matrices.specs.Tables.{entry}
+use Rattle.settings.specs.Rules.{Rule, First}
+use Rattle.settings.specs.Settings.{Parameters, NOf, hOf, HOf, settingRefusal, settingOf, parametersOf}
+use Rattle.settings.specs.declared.Setting.{Setting}
+use Rattle.lova.specs.Answers.{refused, Outcome, ends}
+use Rattle.lova.specs.Stored.{Stored, Instance, Message, Prepared, matrixA, matrixT, matrixS, matrixD, matrixV, matrixS~, matrixT~, matrixD~, joinedT, joinedD, sizeC}
+
+-- a slice has the length of the matrix that it stands for
+abbrev pub Fits : {E : Type 0} → Stored E → List E → Type 0
+Fits s xs = length xs ≡ s .size
+
+abbrev pub FitsInstance : Parameters → Instance → Type 0
+FitsInstance p I = Fits (matrixT p) (I .T) × Fits (matrixD p) (I .D)
+
+abbrev pub FitsJoined : Parameters → Instance → Type 0
+FitsJoined p I = Fits (joinedT p) (I .T) × Fits (joinedD p) (I .D)
+
+abbrev pub FitsMessage : Parameters → Message → Type 0
+FitsMessage p M = Fits (matrixV p) (M .«V») × Fits (matrixT~ p) (M .T~) × Fits (matrixD~ p) (M .D~)
+
+abbrev pub FitsPrepared : Parameters → Prepared → Type 0
+FitsPrepared p o = FitsMessage p (o .message) × Fits (matrixS~ p) (o .S~)
+
+abbrev pub FitsC : Parameters → List ℕ → Type 0
+FitsC p C = length C ≡ sizeC p
+
+-- each column of S has a squared length of at most B
+abbrev pub Short : Parameters → List ℤ → Type 0
+Short p S = (j : ℕ) → j < p .t → squaredLength (p .m) (matrixS p .read S) j ≤ p .bound
+
+-- each byte of C is 0, 1 or 2
+abbrev pub Ternary : Parameters → List ℕ → Type 0
+Ternary p C = (i j : ℕ) → i < NOf p → j < p .t → entry 0 (p .t) C i j ≤ 2
+
+-- each entry is at most M and at least −M
+abbrev pub Bounded : ℕ → ℕ → ℕ → Matrix → Type 0
+Bounded rows cols M X = (i j : ℕ) → i < rows → j < cols → natAbs (X i j) ≤ M
+
+-- the stated lengths of each operation's slices, outputs included
+module _ (p : Parameters) where
+  abbrev pub CommitLengths : List ℕ → List ℤ → Instance → Type 0
+  CommitLengths A S out = Fits (matrixA p) A × Fits (matrixS p) S × FitsInstance p out
+
+  abbrev pub RelationLengths : List ℕ → Instance → List ℤ → Type 0
+  RelationLengths A I S = Fits (matrixA p) A × FitsInstance p I × Fits (matrixS p) S
+
+  abbrev pub JoinLengths : Instance → Instance → List ℤ → Instance → Type 0
+  JoinLengths I₁ I₂ «V» out = FitsInstance p I₁ × FitsInstance p I₂ × Fits (matrixV p) «V» × FitsJoined p out
+
+  abbrev pub MessageLengths : List ℕ → List ℤ → List ℤ → Prepared → Type 0
+  MessageLengths A S₁ S₂ out = Fits (matrixA p) A × Fits (matrixS p) S₁ × Fits (matrixS p) S₂ × FitsPrepared p out
+
+  abbrev pub VerdictLengths : Instance → Instance → Message → List ℕ → Instance → Type 0
+  VerdictLengths I₁ I₂ M C out = FitsInstance p I₁ × FitsInstance p I₂ × FitsMessage p M × FitsC p C × FitsInstance p out
+
+  abbrev pub WitnessLengths : List ℤ → List ℕ → List ℤ → Type 0
+  WitnessLengths S~ C out = Fits (matrixS~ p) S~ × FitsC p C × Fits (matrixS p) out
+
+-- proper calls
+module _ (p : Parameters) where
+  pub record ProperCommit (A : List ℕ) (S : List ℤ) (out : Instance) : Type 0 where
+    pub setting : settingRefusal p ≡ 0
+    pub lengths : CommitLengths p A S out
+    pub columns : Short p S
+
+  pub record ProperRelation (A : List ℕ) (I : Instance) (S : List ℤ) : Type 0 where
+    pub setting : settingRefusal p ≡ 0
+    pub lengths : RelationLengths p A I S
+
+  pub record ProperJoin (I₁ I₂ : Instance) («V» : List ℤ) (out : Instance) : Type 0 where
+    pub setting : settingRefusal p ≡ 0
+    pub lengths : JoinLengths p I₁ I₂ «V» out
+
+  pub record ProperMessage (A : List ℕ) (S₁ S₂ : List ℤ) (out : Prepared) : Type 0 where
+    pub setting : settingRefusal p ≡ 0
+    pub lengths : MessageLengths p A S₁ S₂ out
+    pub columns : Short p S₁ × Short p S₂
+
+  pub record ProperVerdict (I₁ I₂ : Instance) (M : Message) (C : List ℕ) (out : Instance) : Type 0 where
+    pub setting : settingRefusal p ≡ 0
+    pub lengths : VerdictLengths p I₁ I₂ M C out
+    pub bytes : Ternary p C
+    pub entries : Bounded (NOf p) (NOf p) (HOf p) (matrixD~ p .read (M .D~))
+
+  pub record ProperWitness (S~ : List ℤ) (C : List ℕ) (out : List ℤ) : Type 0 where
+    pub setting : settingRefusal p ≡ 0
+    pub lengths : WitnessLengths p S~ C out
+    pub bytes : Ternary p C
+    pub entries : Bounded (p .m) (NOf p) (hOf p) (matrixS~ p .read S~)
+
+-- demand 1, of a call with these rules that is proper where P holds: a proper call ends with its whole answer; every other call
+-- is refused with the first number that applies to it, and its outputs keep what they held
+pub record Decided {X : Type 0} (call : Outcome X) (before : X) (result : Outcome X) (rules : List Rule) (P : Type 0) : Type 0 where
+  pub proper : P → call ≡ result
+  pub others : (P → ⊥) → (r : ℕ) × (call ≡ ends (refused r) before) × First rules r
+  pub refuses : (r : ℕ) → (call .answer ≡ refused r) ↔ First rules r
+
+-- a setting as the checking constructor gives it: accepted, with k, N and the powers worked out from its five numbers
+pub record Rebuilt (s : Setting) : Type 0 where
+  pub ok : settingRefusal (parametersOf s) ≡ 0
+  pub whole : s ≡ settingOf (parametersOf s)

@@ -1,0 +1,13 @@
+pub mod Answers
+pub mod Stored
+pub mod Calls
+pub mod Tests
+pub mod Fold
+pub mod Commit
+pub mod Relation
+pub mod Join
+pub mod Message
+pub mod Verdict
+pub mod Witness
+pub mod Trees
+pub mod Points

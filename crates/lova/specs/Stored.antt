@@ -1,0 +1,81 @@
+-- Document 01, "Matrices": how each matrix is stored.
+use mathlib.Core.List.{List}
+use Prim.Native.Nat.{ℕ, _*_}
+use lib.IntN.{ℤ}
+use Rattle.integers.specs.Residues.{word}
+use Rattle.matrices.specs.Matrices.{Matrix}
+use Rattle.matrices.specs.Tables.{table, unsigned, signed, challenge}
+use Rattle.settings.specs.Settings.{Parameters, NOf}
+
+-- a stored matrix: how many elements it has, the matrix that they stand for, and the elements that stand for a matrix
+pub record Stored (E : Type 0) : Type 0 where
+  pub size : ℕ
+  pub read : List E → Matrix
+  pub write : Matrix → List E
+
+-- unsigned 64-bit entries by rows: whole numbers modulo 2^64
+abbrev pub words : ℕ → ℕ → Stored ℕ
+words rows cols = record { size = rows * cols; read = unsigned cols; write = λ X. table rows cols (λ i j. word (X i j)) }
+
+-- signed 64-bit entries by rows: exact whole numbers
+abbrev pub wholes : ℕ → ℕ → Stored ℤ
+wholes rows cols = record { size = rows * cols; read = signed cols; write = λ X. table rows cols X }
+
+module _ (p : Parameters) where
+  -- A is n by m and T is n by t, unsigned
+  abbrev pub matrixA : Stored ℕ
+  matrixA = words (p .n) (p .m)
+
+  abbrev pub matrixT : Stored ℕ
+  matrixT = words (p .n) (p .t)
+
+  -- S is m by t and D is t by t, signed
+  abbrev pub matrixS : Stored ℤ
+  matrixS = wholes (p .m) (p .t)
+
+  abbrev pub matrixD : Stored ℤ
+  matrixD = wholes (p .t) (p .t)
+
+  -- V is t by t and is S1-transposed times S2
+  abbrev pub matrixV : Stored ℤ
+  matrixV = wholes (p .t) (p .t)
+
+  -- the digit witness S~ is m by N, T~ is n by N, D~ is N by N; T~ is unsigned, the other two signed
+  abbrev pub matrixS~ : Stored ℤ
+  matrixS~ = wholes (p .m) (NOf p)
+
+  abbrev pub matrixT~ : Stored ℕ
+  matrixT~ = words (p .n) (NOf p)
+
+  abbrev pub matrixD~ : Stored ℤ
+  matrixD~ = wholes (NOf p) (NOf p)
+
+  -- the joined T is n by 2t, the joined D is 2t by 2t
+  abbrev pub joinedT : Stored ℕ
+  joinedT = words (p .n) (2 * p .t)
+
+  abbrev pub joinedD : Stored ℤ
+  joinedD = wholes (2 * p .t) (2 * p .t)
+
+  -- C is N by t, one byte an entry
+  abbrev pub sizeC : ℕ
+  sizeC = NOf p * p .t
+
+  abbrev pub readC : List ℕ → Matrix
+  readC = challenge (p .t)
+
+-- an instance: T and D
+pub record Instance : Type 0 where
+  pub T : List ℕ
+  pub D : List ℤ
+
+-- a message: V, T~ and D~
+pub record Message : Type 0 where
+  pub «V» : List ℤ
+  pub T~ : List ℕ
+  pub D~ : List ℤ
+
+-- what the message operation writes: the message, and beside it the digit witness, which is not sent
+pub record Prepared : Type 0 where
+  pub message : Message
+  pub S~ : List ℤ

@@ -1,0 +1,68 @@
+-- The tests that the rules and the verdict use.
+use mathlib.Core.Bool.{Bool, true, false, _&&_}
+use mathlib.Core.List.{List}
+use Prim.Native.Nat.{ℕ, zero, suc}
+use lib.Dec.{leb, eqb}
+use lib.IntN.{ℤ, pos, negsuc, natAbs}
+use lib.ListN.{length}
+use Rattle.integers.specs.Residues.{word}
+use Rattle.matrices.specs.Matrices.{Matrix, squaredLength}
+use Rattle.matrices.specs.Tables.{entry}
+use Rattle.settings.specs.Settings.{Parameters, NOf}
+use Rattle.lova.specs.Stored.{Stored, Instance, Message, Prepared, matrixT, matrixS, matrixD, matrixV, matrixS~, matrixT~, matrixD~, joinedT, joinedD, sizeC}
+
+-- a test of every number below n
+unfoldable pub all : ℕ → (ℕ → Bool) → Bool
+all zero P = true
+all (suc n) P = all n P && P n
+
+-- a test of every entry of a matrix
+unfoldable pub every : ℕ → ℕ → (ℕ → ℕ → Bool) → Bool
+every rows cols P = all rows (λ i. all cols (λ j. P i j))
+
+-- whether two whole numbers are equal
+unfoldable pub eqZ : ℤ → ℤ → Bool
+eqZ (pos a) (pos c) = eqb a c
+eqZ (pos a) (negsuc c) = false
+eqZ (negsuc a) (pos c) = false
+eqZ (negsuc a) (negsuc c) = eqb a c
+
+-- whether two matrices of whole numbers are equal
+abbrev pub equal : ℕ → ℕ → Matrix → Matrix → Bool
+equal rows cols X Y = every rows cols (λ i j. eqZ (X i j) (Y i j))
+
+-- whether they are equal modulo 2^64
+abbrev pub equalWords : ℕ → ℕ → Matrix → Matrix → Bool
+equalWords rows cols X Y = every rows cols (λ i j. eqb (word (X i j)) (word (Y i j)))
+
+-- whether a slice has the length of the matrix that it stands for
+abbrev pub fits : {E : Type 0} → Stored E → List E → Bool
+fits s xs = eqb (length xs) (s .size)
+
+abbrev pub fitsInstance : Parameters → Instance → Bool
+fitsInstance p I = fits (matrixT p) (I .T) && fits (matrixD p) (I .D)
+
+abbrev pub fitsJoined : Parameters → Instance → Bool
+fitsJoined p I = fits (joinedT p) (I .T) && fits (joinedD p) (I .D)
+
+abbrev pub fitsMessage : Parameters → Message → Bool
+fitsMessage p M = fits (matrixV p) (M .«V») && fits (matrixT~ p) (M .T~) && fits (matrixD~ p) (M .D~)
+
+abbrev pub fitsPrepared : Parameters → Prepared → Bool
+fitsPrepared p o = fitsMessage p (o .message) && fits (matrixS~ p) (o .S~)
+
+-- whether a challenge has N × t bytes
+abbrev pub fitsC : Parameters → List ℕ → Bool
+fitsC p C = eqb (length C) (sizeC p)
+
+-- whether each column of S has a squared length of at most B
+unfoldable pub short : Parameters → List ℤ → Bool
+short p S = all (p .t) (λ j. leb (squaredLength (p .m) (matrixS p .read S) j) (p .bound))
+
+-- whether each byte of C is 0, 1 or 2
+unfoldable pub areTernary : Parameters → List ℕ → Bool
+areTernary p C = every (NOf p) (p .t) (λ i j. leb (entry 0 (p .t) C i j) 2)
+
+-- whether each entry is at most M and at least −M
+abbrev pub bounded : ℕ → ℕ → ℕ → Matrix → Bool
+bounded rows cols M X = every rows cols (λ i j. leb (natAbs (X i j)) M)

@@ -1,0 +1,52 @@
+-- Verdict: both instances, V, T~, D~, C to T', D'.
+use mathlib.Core.Bool.{Bool, not, cond, _&&_}
+use mathlib.Core.List.{List, [], _∷_}
+use Prim.Native.Nat.{ℕ, _*_}
+use Rattle.integers.specs.Residues.{word}
+use Rattle.matrices.specs.Matrices.{product, bothSides, Agree}
+use Rattle.settings.specs.Rules.{Rule, _gives_, firstOf}
+use Rattle.settings.specs.Settings.{Parameters, NOf, HOf}
+use Rattle.lova.specs.Answers.{afterSetting, «yes», norm, commitment, Outcome, ends, unlessRefused}
+use Rattle.lova.specs.Stored.{Instance, Message, matrixT, matrixD, matrixT~, matrixD~, readC}
+use Rattle.lova.specs.Tests.{equal, equalWords, bounded, fitsInstance, fitsMessage, fitsC, areTernary}
+use Rattle.lova.specs.Fold.{besideT, blocksD, gadget}
+
+-- after 1 to 6: 7 for a length; 9 for a byte of C above 2; 10 for an entry of D~ above H or below −H
+unfoldable pub verdictRules : Parameters → Instance → Instance → Message → List ℕ → Instance → List Rule
+verdictRules p I₁ I₂ M C out =
+    (not (fitsInstance p I₁ && fitsInstance p I₂ && fitsMessage p M && fitsC p C && fitsInstance p out) gives 7)
+    ∷ (not (areTernary p C) gives 9)
+    ∷ (not (bounded (NOf p) (NOf p) (HOf p) (matrixD~ p .read (M .D~))) gives 10)
+    ∷ []
+
+module _ (p : Parameters) (I₁ I₂ : Instance) (M : Message) where
+  -- the first equation: D recomposed from D~ by G on both sides equals D in whole numbers
+  abbrev pub FirstEquation : Type 0
+  FirstEquation = Agree (2 * p .t) (2 * p .t) (bothSides (NOf p) (gadget p) (matrixD~ p .read (M .D~))) (blocksD p I₁ I₂ (M .«V»))
+
+  -- the second equation: T~ G equals T modulo 2^64
+  abbrev pub SecondEquation : Type 0
+  SecondEquation = Agree (p .n) (2 * p .t) (λ i j. word (product (NOf p) (matrixT~ p .read (M .T~)) (gadget p) i j)) (λ i j. word (besideT p I₁ I₂ i j))
+
+  -- their tests
+  unfoldable pub firstHolds : Bool
+  firstHolds = equal (2 * p .t) (2 * p .t) (bothSides (NOf p) (gadget p) (matrixD~ p .read (M .D~))) (blocksD p I₁ I₂ (M .«V»))
+
+  unfoldable pub secondHolds : Bool
+  secondHolds = equalWords (p .n) (2 * p .t) (product (NOf p) (matrixT~ p .read (M .T~)) (gadget p)) (besideT p I₁ I₂)
+
+-- T' = T~ C modulo 2^64, D' = C-transposed D~ C
+unfoldable pub foldedInstance : Parameters → Message → List ℕ → Instance
+foldedInstance p M C = record {
+  T = matrixT p .write (product (NOf p) (matrixT~ p .read (M .T~)) (readC p C));
+  D = matrixD p .write (bothSides (NOf p) (readC p C) (matrixD~ p .read (M .D~)));
+}
+
+-- norm where the first fails, commitment where only the second fails, else yes; T' and D' are written on yes alone
+unfoldable pub verdictBy : Bool → Bool → Instance → Instance → Outcome Instance
+verdictBy first second before after = cond (not first) (ends norm before) (cond (not second) (ends commitment before) (ends «yes» after))
+
+unfoldable pub verdict : Parameters → Instance → Instance → Message → List ℕ → Instance → Outcome Instance
+verdict p I₁ I₂ M C out =
+    unlessRefused (firstOf (afterSetting p (verdictRules p I₁ I₂ M C out))) out
+    (verdictBy (firstHolds p I₁ I₂ M) (secondHolds p I₁ I₂ M) out (foldedInstance p M C))

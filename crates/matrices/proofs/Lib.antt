@@ -1,0 +1,5 @@
+pub mod Matrices
+pub mod Tables
+pub mod Bounds
+pub mod Turns
+pub mod Examples

@@ -1,0 +1,3 @@
+pub mod Rules
+pub mod Settings
+pub mod HouseList

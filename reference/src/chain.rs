@@ -1,0 +1,176 @@
+//! The chain program `foldchain`.
+
+use crate::operations::relation;
+use crate::settings::{refusal, Parameters};
+use crate::tree::{fold, leaf, Node};
+
+/// Longest line, line feed included.
+pub const LONGEST_LINE: usize = 4096;
+
+/// The record that is due; at `Leaf` the input may end as well.
+#[derive(Clone, Copy, Default, PartialEq)]
+enum Due {
+    #[default]
+    Param,
+    A,
+    FirstLeaf,
+    Leaf,
+    C,
+}
+
+/// The run state.
+#[derive(Default)]
+struct Run {
+    due: Due,
+    p: Parameters,
+    a: Vec<u64>,
+    accumulated: Node,
+    newest: Node,
+    leaves: u64,
+    folds: u64,
+    output: Vec<u8>,
+}
+
+/// An unsigned number: decimal digits without a leading zero, within 64 bits.
+fn unsigned(field: &[u8]) -> Option<u64> {
+    if field.is_empty() || !field.iter().all(u8::is_ascii_digit) || (field[0] == b'0' && field.len() > 1) {
+        return None;
+    }
+    let step = |value: u64, digit: &u8| value.checked_mul(10)?.checked_add((digit - b'0') as u64);
+    field.iter().try_fold(0u64, step)
+}
+
+/// A signed number: an unsigned one or, other than zero, one after a minus, within 64 bits.
+fn signed(field: &[u8]) -> Option<i64> {
+    match field.strip_prefix(b"-") {
+        Some(size) => unsigned(size).filter(|w| *w != 0 && *w <= 1 << 63).map(|w| (-(w as i128)) as i64),
+        None => unsigned(field).and_then(|w| i64::try_from(w).ok()),
+    }
+}
+
+/// A byte of C from -1, 0 or 1.
+fn challenge_byte(field: &[u8]) -> Option<u8> {
+    match field {
+        b"0" => Some(0),
+        b"1" => Some(1),
+        b"-1" => Some(2),
+        _ => None,
+    }
+}
+
+/// The numbers of a record: as many fields as stated, each read by the given rule, else 13.
+fn numbers<T>(fields: &[&[u8]], count: u64, read: fn(&[u8]) -> Option<T>) -> Result<Vec<T>, u32> {
+    if fields.len() as u64 != count {
+        return Err(13);
+    }
+    fields.iter().map(|field| read(field)).collect::<Option<Vec<T>>>().ok_or(13)
+}
+
+/// The fields of an output line as text.
+fn texts<T: ToString>(entries: &[T]) -> Vec<String> {
+    entries.iter().map(T::to_string).collect()
+}
+
+impl Run {
+    /// Print one line: fields parted by tabs, ended by a line feed.
+    fn print(&mut self, fields: &[String]) {
+        self.output.extend_from_slice(fields.join("\t").as_bytes());
+        self.output.push(b'\n');
+    }
+
+    /// Take one line without its line feed, or give the refusal.
+    fn line(&mut self, line: &[u8]) -> Result<(), u32> {
+        let fields: Vec<&[u8]> = line.split(|byte| *byte == b'\t').collect();
+        let (word, fields) = (fields[0], &fields[1..]);
+        match (self.due, word) {
+            (Due::Param, b"param") => self.param(fields),
+            (Due::A, b"a") => self.matrix(fields),
+            (Due::FirstLeaf, b"leaf") | (Due::Leaf, b"leaf") => self.leaf(fields),
+            (Due::C, b"c") => self.challenge(fields),
+            _ => Err(13),
+        }
+    }
+
+    /// Take the setting: 13, then 1 to 6, then 14.
+    fn param(&mut self, fields: &[&[u8]]) -> Result<(), u32> {
+        let five = numbers(fields, 5, unsigned)?;
+        let p = Parameters { n: five[0], m: five[1], t: five[2], b: five[3], bound: five[4] };
+        if refusal(&p) != 0 {
+            return Err(refusal(&p));
+        }
+        if p.n > 8 || p.m > 16 || p.t > 2 || p.k() > 8 {
+            return Err(14);
+        }
+        self.p = p;
+        self.due = Due::A;
+        Ok(())
+    }
+
+    /// Take the matrix A.
+    fn matrix(&mut self, fields: &[&[u8]]) -> Result<(), u32> {
+        self.a = numbers(fields, self.p.n * self.p.m, unsigned)?;
+        self.due = Due::FirstLeaf;
+        Ok(())
+    }
+
+    /// Take a witness: 13, then 8; print its instance.
+    fn leaf(&mut self, fields: &[&[u8]]) -> Result<(), u32> {
+        let s = numbers(fields, self.p.m * self.p.t, signed)?;
+        let node = leaf(&self.p, &self.a, &s)?;
+        self.leaves += 1;
+        let head = vec!["leaf".to_string(), self.leaves.to_string()];
+        self.print(&[head, texts(&node.t), texts(&node.d)].concat());
+        if self.due == Due::FirstLeaf {
+            self.accumulated = node;
+            self.due = Due::Leaf;
+        } else {
+            self.newest = node;
+            self.due = Due::C;
+        }
+        Ok(())
+    }
+
+    /// Take a challenge: fold the accumulated node with the newest leaf and print the fold.
+    fn challenge(&mut self, fields: &[&[u8]]) -> Result<(), u32> {
+        let c = numbers(fields, self.p.columns() as u64 * self.p.t, challenge_byte)?;
+        let (answer, node) = fold(&self.p, &self.a, &self.accumulated, &self.newest, &c)?;
+        self.folds += 1;
+        let head = vec!["fold".to_string(), self.folds.to_string(), answer.word()];
+        self.print(&[head, texts(&node.t), texts(&node.d)].concat());
+        self.accumulated = node;
+        self.due = Due::Leaf;
+        Ok(())
+    }
+
+    /// Take the end of the input: print the count of folds and the relation test, or 13 for a missing line.
+    fn end(&mut self) -> Result<(), u32> {
+        if self.due != Due::Leaf {
+            return Err(13);
+        }
+        let node = &self.accumulated;
+        let answer = relation(&self.p, &self.a, &node.t, &node.d, &node.s);
+        self.print(&["end".to_string(), self.folds.to_string(), answer.word()]);
+        Ok(())
+    }
+}
+
+/// The output of the program for an input.
+pub fn run(input: &[u8]) -> Vec<u8> {
+    let mut run = Run::default();
+    let mut number = 0u64;
+    for line in input.split_inclusive(|byte| *byte == b'\n') {
+        number += 1;
+        let outcome = match line.strip_suffix(b"\n") {
+            Some(text) if line.len() <= LONGEST_LINE => run.line(text),
+            _ => Err(13),
+        };
+        if let Err(refused) = outcome {
+            run.print(&["refused".to_string(), number.to_string(), refused.to_string()]);
+            return run.output;
+        }
+    }
+    if let Err(refused) = run.end() {
+        run.print(&["refused".to_string(), (number + 1).to_string(), refused.to_string()]);
+    }
+    run.output
+}

@@ -1,0 +1,12 @@
+//! Reference for Lova folding at q = 2^64, written from document 01 and the
+//! readings of its open points. Plain and slow; it is meant to be compared with.
+#![forbid(unsafe_code)]
+#![allow(clippy::too_many_arguments)]
+
+pub mod chain;
+pub mod digits;
+pub mod matrices;
+pub mod operations;
+pub mod rng;
+pub mod settings;
+pub mod tree;

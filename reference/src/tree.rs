@@ -1,0 +1,108 @@
+//! Trees of folds: the honest calls, and the plain tree.
+
+use crate::digits::digit_matrix;
+use crate::matrices::{beside, product, whole, words};
+use crate::operations::*;
+use crate::settings::{shape, Parameters};
+
+/// A leaf with a witness, or a fold of a left and a right tree with a challenge.
+#[derive(Clone, Debug)]
+pub enum Tree {
+    Leaf(Vec<i64>),
+    Fold(Box<Tree>, Box<Tree>, Vec<u8>),
+}
+
+/// An instance T, D with its witness S.
+#[derive(Clone, Debug, Default, PartialEq, Eq)]
+pub struct Node {
+    pub t: Vec<u64>,
+    pub d: Vec<i64>,
+    pub s: Vec<i64>,
+}
+
+/// The prover's message V, T~, D~ and the digits S~ that the prover keeps.
+#[derive(Clone, Debug, PartialEq, Eq)]
+pub struct Message {
+    pub v: Vec<i64>,
+    pub tt: Vec<u64>,
+    pub dd: Vec<i64>,
+    pub ss: Vec<i64>,
+}
+
+/// What fresh outputs hold before a call; any value would do.
+const HELD: i64 = 77;
+
+/// The matrix that the plain tree makes; nothing for a refused setting or a leaf or C that does not fit it.
+pub fn plain(p: &Parameters, tree: &Tree) -> Option<Vec<i64>> {
+    let z = shape(p).ok()?;
+    match tree {
+        Tree::Leaf(s) => (s.len() == z.m * z.t).then(|| s.clone()),
+        Tree::Fold(left, right, c) => {
+            let both = beside(&plain(p, left)?, &plain(p, right)?, z.m, z.t);
+            let digits = digit_matrix(&both, z.m, 2 * z.t, z.b, z.k);
+            let c = challenge_values(c).filter(|c| c.len() == z.columns * z.t)?;
+            Some(words(&product(&whole(&digits), &whole(&c), z.m, z.columns, z.t)))
+        }
+    }
+}
+
+/// The number of a refusal as an error, any other answer as it is.
+fn accepted(answer: Answer) -> Result<Answer, u32> {
+    match answer {
+        Answer::Refused(number) => Err(number),
+        other => Ok(other),
+    }
+}
+
+/// The honest leaf: commit's instance with its witness.
+pub fn leaf(p: &Parameters, a: &[u64], s: &[i64]) -> Result<Node, u32> {
+    let z = shape(p)?;
+    let mut t = vec![HELD as u64; z.n * z.t];
+    let mut d = vec![HELD; z.t * z.t];
+    accepted(commit(p, a, s, &mut t, &mut d))?;
+    Ok(Node { t, d, s: s.to_vec() })
+}
+
+/// The honest message for two witnesses.
+pub fn honest_message(p: &Parameters, a: &[u64], s1: &[i64], s2: &[i64]) -> Result<Message, u32> {
+    let z = shape(p)?;
+    let mut v = vec![HELD; z.t * z.t];
+    let mut tt = vec![HELD as u64; z.n * z.columns];
+    let mut dd = vec![HELD; z.columns * z.columns];
+    let mut ss = vec![HELD; z.m * z.columns];
+    accepted(message(p, a, s1, s2, &mut v, &mut tt, &mut dd, &mut ss))?;
+    Ok(Message { v, tt, dd, ss })
+}
+
+/// The honest fold of two nodes: the verdict and the folded node.
+pub fn fold(p: &Parameters, a: &[u64], left: &Node, right: &Node, c: &[u8]) -> Result<(Answer, Node), u32> {
+    let z = shape(p)?;
+    let sent = honest_message(p, a, &left.s, &right.s)?;
+    let mut joined_t = vec![HELD as u64; 2 * z.n * z.t];
+    let mut joined_d = vec![HELD; 4 * z.t * z.t];
+    accepted(join(p, &left.t, &left.d, &right.t, &right.d, &sent.v, &mut joined_t, &mut joined_d))?;
+    let mut t = vec![HELD as u64; z.n * z.t];
+    let mut d = vec![HELD; z.t * z.t];
+    let answer = verdict(
+        p, &left.t, &left.d, &right.t, &right.d, &sent.v, &sent.tt, &sent.dd, c, &mut t, &mut d,
+    );
+    let answer = accepted(answer)?;
+    let mut s = vec![HELD; z.m * z.t];
+    accepted(folded_witness(p, &sent.ss, c, &mut s))?;
+    Ok((answer, Node { t, d, s }))
+}
+
+/// The honest tree: every verdict, folds from the leaves up and left before right, and the root.
+pub fn honest(p: &Parameters, a: &[u64], tree: &Tree) -> Result<(Vec<Answer>, Node), u32> {
+    match tree {
+        Tree::Leaf(s) => Ok((Vec::new(), leaf(p, a, s)?)),
+        Tree::Fold(left, right, c) => {
+            let (mut answers, left) = honest(p, a, left)?;
+            let (others, right) = honest(p, a, right)?;
+            let (answer, node) = fold(p, a, &left, &right, c)?;
+            answers.extend(others);
+            answers.push(answer);
+            Ok((answers, node))
+        }
+    }
+}
