@@ -1,14 +1,15 @@
 -- The digits of a row as a list: its length, and each digit's place.
-use mathlib.Core.Path.{_≡_, refl, sym, _∙_, ap₂}
+use mathlib.Core.Path.{_≡_, refl, sym, _∙_, ap, ap₂}
 use mathlib.Core.Logic.{⊎-elim}
 use mathlib.Core.List.{List, _++_}
-use Prim.Native.Nat.{ℕ, _+_, _*_, _/_, _%_, _<_, _≤_}
+use Prim.Native.Nat.{ℕ, zero, suc, _+_, _*_, _-_, _/_, _%_, _<_, _≤_}
 use native.Mathlib.Omega.{arith}
-use native.Mathlib.Nat.{suc-mul, mul-le-mul-right}
+use native.Mathlib.Nat.{suc-mul, mul-le-mul-right, div-add-mod', div-lt-iff-lt-mul, mod-lt}
 use lib.Arith.{digits-lt, digits-div, digits-mod}
 use lib.IntN.{ℤ, pos, natAbs}
-use lib.ListN.{length, getD, take, drop, length-take, length-drop, List·getD-eq-default}
-use Rattle.integers.proofs.Lists.{length-build, getD-build, Filled, filled-part}
+use lib.ListN.{length, getD, take, drop, length-append, length-take, length-drop, List·getD-append, List·getD-eq-default}
+use lib.Seq.{getD-append-add}
+use Rattle.integers.proofs.Lists.{length-build, getD-build, is-build, Filled, filled-part}
 use Rattle.integers.proofs.Tests.{le-or-lt}
 use Rattle.digits.specs.Digits.{digitOf, digitsOf, rowDigits}
 use Rattle.digits.proofs.Digits.{digit-bound}
@@ -59,3 +60,31 @@ row-more b k j m z s row ys h e f g r =
 
     made : ys ≡ digitsOf b k (getD s j (pos 0))
     made = g ∙ ap₂ (digitsOf b) part f
+
+-- the digits of one row and then of another are those of the two rows side by side
+pub rowDigits-append : (b k : ℕ) (xs ys : List ℤ) → rowDigits b k xs ++ rowDigits b k ys ≡ rowDigits b k (xs ++ ys)
+rowDigits-append b zero xs ys = is-build _ _ (pos 0) (rowDigits b 0 xs ++ rowDigits b 0 ys) (simp (length-append, length-build) (omega arith)) (λ c l. absurd (omega arith))
+rowDigits-append b (suc k) xs ys = is-build (length (xs ++ ys) * suc k) (digitAt b (suc k) (xs ++ ys)) (pos 0) (rowDigits b (suc k) xs ++ rowDigits b (suc k) ys) size
+    (λ c l. rw (← div-add-mod' c (suc k)) (at (c / suc k) (c % suc k) (div-lt-iff-lt-mul (omega arith) .1 l) (mod-lt c (omega arith)) ∙ sym (digit-at b (suc k) (xs ++ ys) (c / suc k) (c % suc k) (mod-lt c (omega arith)))))
+  where
+    size : length (rowDigits b (suc k) xs ++ rowDigits b (suc k) ys) ≡ length (xs ++ ys) * suc k
+    size = simp (length-append, length-build) (omega arith)
+
+    at : (j p : ℕ) → j < length (xs ++ ys) → p < suc k → getD (rowDigits b (suc k) xs ++ rowDigits b (suc k) ys) (j * suc k + p) (pos 0) ≡ digitOf b (getD (xs ++ ys) j (pos 0)) p
+    at j p h l = ⊎-elim (λ (g : length xs ≤ j). right g) (λ (g : j < length xs). left g) (le-or-lt (length xs) j)
+      where
+        left : j < length xs → getD (rowDigits b (suc k) xs ++ rowDigits b (suc k) ys) (j * suc k + p) (pos 0) ≡ digitOf b (getD (xs ++ ys) j (pos 0)) p
+        left g =
+            List·getD-append (rowDigits b (suc k) xs) (rowDigits b (suc k) ys) (pos 0) (j * suc k + p) (rw (length-rowDigits b (suc k) xs) (digits-lt g l))
+            ∙ getD-rowDigits b (suc k) xs j p g l
+            ∙ ap (λ (z : ℤ). digitOf b z p) (sym (List·getD-append xs ys (pos 0) j g))
+
+        right : length xs ≤ j → getD (rowDigits b (suc k) xs ++ rowDigits b (suc k) ys) (j * suc k + p) (pos 0) ≡ digitOf b (getD (xs ++ ys) j (pos 0)) p
+        right g =
+            let n : length ys + length xs ≡ length (xs ++ ys) = omega (arith, length-append xs ys) in
+            let i : j ≡ length xs + (j - length xs) = omega arith in
+            let c : j * suc k + p ≡ length (rowDigits b (suc k) xs) + ((j - length xs) * suc k + p) = rw (length-rowDigits b (suc k) xs) (omega (arith, ap (λ (x : ℕ). x * suc k) i)) in
+            ap (λ (x : ℕ). getD (rowDigits b (suc k) xs ++ rowDigits b (suc k) ys) x (pos 0)) c
+            ∙ getD-append-add (rowDigits b (suc k) xs) (rowDigits b (suc k) ys) ((j - length xs) * suc k + p) (pos 0)
+            ∙ getD-rowDigits b (suc k) ys (j - length xs) p (omega arith) l
+            ∙ ap (λ (z : ℤ). digitOf b z p) (sym (ap (λ (x : ℕ). getD (xs ++ ys) x (pos 0)) i ∙ getD-append-add xs ys (j - length xs) (pos 0)))

@@ -1,5 +1,5 @@
 -- The laws of lists over an index.
-use mathlib.Core.Path.{_≡_, refl, sym, _∙_, ap}
+use mathlib.Core.Path.{_≡_, refl, sym, _∙_, ap, ap₂}
 use mathlib.Core.Logic.{⊎-elim}
 use mathlib.Core.Bool.{Bool}
 use mathlib.Core.List.{List, [], _∷_, _++_, map}
@@ -8,8 +8,8 @@ use native.Mathlib.Omega.{arith}
 use native.Mathlib.Nat.{le-of-suc-le-suc}
 use borrow.Author.Count.{below-more}
 use lib.Dec.{T}
-use lib.ListN.{length, getD, set, take, drop, length-append, length-take, length-drop, length-set, List·getD-append}
-use lib.Seq.{ext-getD, getD-set-same, getD-set-other, getD-take, getD-append-add, length-take-le}
+use lib.ListN.{length, getD, set, take, drop, replicate, length-replicate, getD-replicate, length-append, length-take, length-drop, length-set, List·getD-append}
+use lib.Seq.{ext-getD, getD-set-same, getD-set-other, getD-take, getD-drop, getD-append-add, length-take-le}
 use Rattle.integers.proofs.Tests.{le-or-lt, and-fst, and-snd}
 use Rattle.integers.specs.Lists.{build, every}
 
@@ -30,6 +30,12 @@ module _ {A : Type 0} where
   is-build n f d xs h g =
       ext-getD d xs (build n f) (h ∙ sym (length-build n f)) (λ i l. let k : i < n = omega arith in g i k ∙ sym (getD-build n f i d k))
 
+  -- functions that agree build the same list
+  pub build-cong : (n : ℕ) (f g : ℕ → A) → ((i : ℕ) → i < n → f i ≡ g i) → build n f ≡ build n g
+  unfolding build
+  build-cong zero f g h = refl
+  build-cong (suc n) f g h = ap₂ _∷_ (h 0 (omega arith)) (build-cong n (λ i. f (suc i)) (λ i. g (suc i)) (λ i l. h (suc i) (omega arith)))
+
   -- what every element passes, each element passes
   pub every-at : (P : A → Bool) (d : A) (xs : List A) → T (every P xs) → (i : ℕ) → i < length xs → T (P (getD xs i d))
   every-at P d [] t i h = absurd (omega arith)
@@ -41,6 +47,35 @@ pub getD-map : {A B : Type 0} (f : A → B) (xs : List A) (i : ℕ) (d : B) (e :
 getD-map f [] i d e h = absurd (omega arith)
 getD-map f (x ∷ xs) zero d e h = refl
 getD-map f (x ∷ xs) (suc i) d e h = getD-map f xs i d e (le-of-suc-le-suc h)
+
+-- a list whose part of k elements from a on has come back as ys: its length, and what stands in that part, before it and after it
+module _ {A : Type 0} (a k : ℕ) (xs ys : List A) (d : A) (h : a + k ≤ length xs) (e : length ys ≡ k) where
+  start : length (take a xs) ≡ a
+  start = length-take-le a xs (omega arith)
+
+  pub part-long : length (take a xs ++ (ys ++ drop k (drop a xs))) ≡ length xs
+  part-long = simp (length-append, length-take, length-drop) (omega arith)
+
+  pub part-in : (i : ℕ) → i < k → getD (take a xs ++ (ys ++ drop k (drop a xs))) (a + i) d ≡ getD ys i d
+  part-in i l =
+      let j : a + i ≡ length (take a xs) + i = omega (arith, start) in
+      ap (λ (x : ℕ). getD (take a xs ++ (ys ++ drop k (drop a xs))) x d) j
+      ∙ getD-append-add (take a xs) (ys ++ drop k (drop a xs)) i d
+      ∙ List·getD-append ys (drop k (drop a xs)) d i (omega arith)
+
+  pub part-before : (i : ℕ) → i < a → getD (take a xs ++ (ys ++ drop k (drop a xs))) i d ≡ getD xs i d
+  part-before i l = List·getD-append (take a xs) (ys ++ drop k (drop a xs)) d i (omega (arith, start)) ∙ getD-take a xs i d l
+
+  pub part-after : (i : ℕ) → a + k ≤ i → getD (take a xs ++ (ys ++ drop k (drop a xs))) i d ≡ getD xs i d
+  part-after i l =
+      let j : i ≡ length (take a xs) + (length ys + (i - a - k)) = omega (arith, start) in
+      let q : a + (k + (i - a - k)) ≡ i = omega arith in
+      ap (λ (x : ℕ). getD (take a xs ++ (ys ++ drop k (drop a xs))) x d) j
+      ∙ getD-append-add (take a xs) (ys ++ drop k (drop a xs)) (length ys + (i - a - k)) d
+      ∙ getD-append-add ys (drop k (drop a xs)) (i - a - k) d
+      ∙ getD-drop k (drop a xs) (i - a - k) d
+      ∙ getD-drop a xs (k + (i - a - k)) d
+      ∙ ap (λ (x : ℕ). getD xs x d) q
 
 -- a list of n elements that is being filled with f 0, f 1, …: the first p of them are f's
 pub record Filled {A : Type 0} (n : ℕ) (f : ℕ → A) (d : A) (p : ℕ) (xs : List A) : Type 0 where
@@ -67,26 +102,22 @@ module _ {A : Type 0} (n : ℕ) (f : ℕ → A) (d : A) where
       → Filled n f d p xs → Filled n f d (p + k) (take p xs ++ (ys ++ drop k (drop p xs)))
   filled-part p k xs ys h e g r = record {
     within = h;
-    long = simp (length-append, length-take, length-drop) (omega (arith, r .long));
-    right = λ i l. ⊎-elim (λ (m : p ≤ i). new i m l) (λ (m : i < p). old i m) (le-or-lt p i);
+    long = part-long p k xs ys d fits e ∙ r .long;
+    right = λ i l. ⊎-elim (λ (m : p ≤ i). new i m l) (λ (m : i < p). part-before p k xs ys d fits e i m ∙ r .right i m) (le-or-lt p i);
   }
     where
-      size : length (take p xs) ≡ p
-      size = length-take-le p xs (omega (arith, r .long))
-
-      old : (i : ℕ) → i < p → getD (take p xs ++ (ys ++ drop k (drop p xs))) i d ≡ f i
-      old i m = List·getD-append (take p xs) (ys ++ drop k (drop p xs)) d i (omega (arith, size)) ∙ getD-take p xs i d m ∙ r .right i m
+      fits : p + k ≤ length xs
+      fits = omega (arith, r .long)
 
       new : (i : ℕ) → p ≤ i → i < p + k → getD (take p xs ++ (ys ++ drop k (drop p xs))) i d ≡ f i
       new i m l =
-          let j : i ≡ length (take p xs) + (i - p) = omega (arith, size) in
           let q : p + (i - p) ≡ i = omega arith in
-          ap (λ (x : ℕ). getD (take p xs ++ (ys ++ drop k (drop p xs))) x d) j
-          ∙ getD-append-add (take p xs) (ys ++ drop k (drop p xs)) (i - p) d
-          ∙ List·getD-append ys (drop k (drop p xs)) d (i - p) (omega arith)
-          ∙ g (i - p) (omega arith)
-          ∙ ap f q
+          rw (← q) (part-in p k xs ys d fits e (i - p) (omega arith) ∙ g (i - p) (omega arith))
 
   -- all of them
   pub filled-all : (p : ℕ) (xs : List A) → n ≤ p → Filled n f d p xs → xs ≡ build n f
   filled-all p xs h r = is-build n f d xs (r .long) (λ i l. r .right i (omega arith))
+
+-- a constant builds a repeat
+pub build-constant : {A : Type 0} (n : ℕ) (v : A) → build n (λ i. v) ≡ replicate n v
+build-constant n v = sym (is-build n (λ i. v) v (replicate n v) (length-replicate n v) (λ i h. getD-replicate n i v v h))

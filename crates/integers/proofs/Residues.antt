@@ -3,8 +3,8 @@ use mathlib.Core.Path.{_≡_, refl, sym, _∙_, ap}
 use Prim.Native.Nat.{ℕ, zero, suc, _+_, _*_, _-_, _/_, _%_, _^_, _<_}
 use native.Mathlib.Omega.{arith}
 use native.Mathlib.Nat.{add-mul-mod-self-right, div-add-mod', mod-lt, mod-eq-of-lt}
-use lib.IntN.{ℤ, pos, negsuc, _+ℤ_, _*ℤ_}
-use Rattle.integers.proofs.Ring.{diff, diff-cases, diff-add, diff-mul, by-diff₂}
+use lib.IntN.{ℤ, pos, negsuc, negℤ, _+ℤ_, _-ℤ_, _*ℤ_}
+use Rattle.integers.proofs.Ring.{diff, diff-pos, diff-cases, pos-minus, diff-add, diff-mul, by-diff₂}
 use Rattle.integers.specs.Sums.{sum}
 use Rattle.integers.specs.Residues.{residue, word}
 
@@ -81,3 +81,14 @@ module _ (M : ℕ) (m-pos : 0 < M) where
 
 pub word-sum : (n : ℕ) (f g : ℕ → ℤ) → word (sum n (λ k. pos (word (f k)) *ℤ g k)) ≡ word (sum n (λ k. f k *ℤ g k))
 word-sum n f g = residue-sum-cong (2 ^ 64) (omega arith) n _ _ (λ k h. residue-*-cong (2 ^ 64) (omega arith) _ _ _ _ (residue-residue (2 ^ 64) (omega arith) (f k)) refl)
+
+-- what is added to a residue modulo 2^64 might as well be added to its number
+pub word-on : (x y : ℤ) → word (pos (word x) +ℤ y) ≡ word (x +ℤ y)
+word-on x y = residue-+-cong (2 ^ 64) (omega arith) (pos (word x)) x y y (residue-residue (2 ^ 64) (omega arith) x) refl
+
+-- the machine's wrapping difference r of a and b: the word that b added to wraps back to a
+pub word-minus : (a b r : ℕ) → r < 2 ^ 64 → (r + b) % 2 ^ 64 ≡ a → r ≡ word (pos a -ℤ pos b)
+unfolding residue
+word-minus a b r h e =
+    sym (ap (λ (n : ℕ). word (pos n -ℤ pos b)) (sym e) ∙ word-on (pos (r + b)) (negℤ (pos b))
+    ∙ ap word (pos-minus (r + b) b ∙ diff-pos (r + b) b r refl) ∙ residue-small (2 ^ 64) r h)

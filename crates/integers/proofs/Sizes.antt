@@ -2,11 +2,12 @@
 use mathlib.Core.Path.{_≡_, refl}
 use Prim.Native.Nat.{ℕ, zero, suc, _+_, _*_, _-_, _^_, _<_, _≤_}
 use native.Mathlib.Omega.{arith}
+use native.Mathlib.Nat.{lt-of-le-of-lt, le-of-lt}
 use lib.Dec.{ltb, ltb→lt}
 use lib.IntN.{ℤ, pos, negsuc, negℤ, natAbs, subℕ, _+ℤ_, _*ℤ_}
 use lib.Signed.{mag}
-use mir.Syntax.{w64}
-use mir.Val.{SFits}
+use mir.Syntax.{Width, w64}
+use mir.Val.{SFits, hbits}
 use Rattle.integers.proofs.Tests.{cond-ind}
 
 pub natAbs-negate : (z : ℤ) → natAbs (negℤ z) ≡ natAbs z
@@ -41,3 +42,11 @@ mag-le (negsuc n) = omega arith
 
 pub fits-by-size : (z : ℤ) → natAbs z < 2 ^ 63 → SFits w64 z
 fits-by-size z h = record { sfits = omega (arith, mag-le z) }
+
+-- the same at any width, and the size of a number that fits
+pub fits-in : (w : Width) (z : ℤ) → natAbs z < 2 ^ hbits w → SFits w z
+fits-in w z h = record { sfits = lt-of-le-of-lt (mag-le z) h }
+
+pub fits-size : (w : Width) (z : ℤ) → SFits w z → natAbs z ≤ 2 ^ hbits w
+fits-size w (pos n) f = le-of-lt (f .sfits)
+fits-size w (negsuc n) f = f .sfits

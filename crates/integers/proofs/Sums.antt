@@ -1,7 +1,7 @@
 -- The laws of finite sums.
 use mathlib.Core.Path.{_≡_, refl, sym, _∙_, ap, ap₂, subst}
 use mathlib.Core.Logic.{_≢_, ⊎-elim}
-use Prim.Native.Nat.{ℕ, zero, suc, _+_, _*_, _^_, _<_, _≤_}
+use Prim.Native.Nat.{ℕ, zero, suc, _+_, _*_, _-_, _^_, _<_, _≤_}
 use native.Mathlib.Omega.{arith}
 use native.Mathlib.Nat.{add-zero, add-suc, suc-mul, zero-mul, le-refl, le-step, le-trans, le-add-right, le-of-lt, le-dest}
 use native.Mathlib.Decide.{ℕ-discrete, le-ind}
@@ -141,3 +141,12 @@ pub sum-pos : (n : ℕ) (f : ℕ → ℕ) → sum n (λ i. pos (f i)) ≡ pos (s
 unfolding sum sumℕ
 sum-pos zero f = refl
 sum-pos (suc n) f = ap (λ (z : ℤ). z +ℤ pos (f n)) (sum-pos n f)
+
+-- terms of 0 at the end add nothing
+pub sum-past : (n k : ℕ) (f : ℕ → ℤ) → n ≤ k → ((j : ℕ) → n ≤ j → f j ≡ pos 0) → sum k f ≡ sum n f
+sum-past n k f h z =
+    let t : n + (k - n) ≡ k = omega arith in
+    ap (λ (x : ℕ). sum x f) (sym t)
+    ∙ sum-split n (k - n) f
+    ∙ ap (λ (y : ℤ). sum n f +ℤ y) (sum-none (k - n) (λ j. f (n + j)) (λ j l. z (n + j) (omega arith)))
+    ∙ +ℤ-idr (sum n f)

@@ -7,11 +7,11 @@ use lib.IntN.{ℤ, pos, negsuc, natAbs, negℤ, _-ℤ_, predℤ, predℤ-+ℤ, +
 use lib.Dec.{T}
 use lib.Signed.{ltZ, nonNeg}
 use borrow.Author.Tests.{ltb-true, le-leb, lt-leb}
-use mir.Syntax.{w64}
-use mir.Val.{Fits, SFits, toZ, ofZ}
+use mir.Syntax.{Width, w64}
+use mir.Val.{Fits, SFits, toZ, ofZ, hbits}
 use mir.Facts.{fits-natAbs}
 use mir.ValLaws.{toZ-ofZ, toZ-pos}
-use Rattle.integers.proofs.Sizes.{natAbs-negate, fits-by-size}
+use Rattle.integers.proofs.Sizes.{natAbs-negate, fits-by-size, fits-in}
 use Rattle.integers.specs.declared.Signed.the-variants.{Word, TooLarge}
 use Rattle.integers.specs.Words.{largest, signedBy, signedWord}
 
@@ -97,3 +97,17 @@ module _ (z : ℤ) (small : natAbs z < 2 ^ 63) where
 
   pub read-minus : toZ w64 (ofZ w64 (pos 0 -ℤ toZ w64 (ofZ w64 z))) ≡ negℤ z
   read-minus = ap (λ (y : ℤ). toZ w64 (ofZ w64 y)) minus-is ∙ toZ-ofZ w64 (negℤ z) fits-negated
+
+-- What the machine has as u is the number a, which fits the width w: what a cast, a sum or a product asks of u, and what is read of it.
+pub record Held (w : Width) (u a : ℤ) : Type 0 where
+  pub fits : SFits w u
+  pub read : toZ w (ofZ w u) ≡ a
+  pub bits : ofZ w u ≡ ofZ w a
+
+pub held : (w : Width) {u a : ℤ} → u ≡ a → natAbs a < 2 ^ hbits w → Held w u a
+held w {u} {a} e h =
+    let f : SFits w a = fits-in w a h in
+    record { fits = subst (SFits w) (sym e) f; read = ap (λ (z : ℤ). toZ w (ofZ w z)) e ∙ toZ-ofZ w a f; bits = ap (ofZ w) e }
+
+pub read-back : (w : Width) (z : ℤ) → natAbs z < 2 ^ hbits w → toZ w (ofZ w z) ≡ z
+read-back w z h = held w {u = z} {a = z} refl h .read

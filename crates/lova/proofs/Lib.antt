@@ -3,6 +3,9 @@ pub mod Tests
 pub mod Blocks
 pub mod Gadget
 pub mod Refusals
+pub mod Rebuilding
+pub mod WaysOut
+pub mod Numbers
 pub mod OneFold
 pub mod Honest
 pub mod Exact

@@ -140,11 +140,11 @@ applies true = ((λ e. absurd (true≢false (sym e))), (λ h. absurd (h tt)))
 applies false = ((λ e h. h), (λ h. refl))
 
 -- a test together with what it says, and such tests joined by &&
-record Decides (P : Type 0) : Type 0 where
-  test : Bool
-  says : T test ↔ P
+pub record Decides (P : Type 0) : Type 0 where
+  pub test : Bool
+  pub says : T test ↔ P
 
-abbrev both : {P Q : Type 0} → Decides P → Decides Q → Decides (P × Q)
+abbrev pub both : {P Q : Type 0} → Decides P → Decides Q → Decides (P × Q)
 both a b = record {
   test = a .test && b .test;
   says = (
@@ -153,17 +153,17 @@ both a b = record {
   );
 }
 
-abbrev three : {P Q R : Type 0} → Decides P → Decides Q → Decides R → Decides (P × Q × R)
+abbrev pub three : {P Q R : Type 0} → Decides P → Decides Q → Decides R → Decides (P × Q × R)
 three a b c =
     let l = both (both a b) c in
     record { test = l .test; says = ((λ h. let x = l .says .0 h in (x .0 .0, x .0 .1, x .1)), (λ h. l .says .1 ((h .0, h .1), h .2))) }
 
-abbrev four : {P Q R S : Type 0} → Decides P → Decides Q → Decides R → Decides S → Decides (P × Q × R × S)
+abbrev pub four : {P Q R S : Type 0} → Decides P → Decides Q → Decides R → Decides S → Decides (P × Q × R × S)
 four a b c d =
     let l = both (three a b c) d in
     record { test = l .test; says = ((λ h. let x = l .says .0 h in (x .0 .0, x .0 .1, x .0 .2, x .1)), (λ h. l .says .1 ((h .0, h .1, h .2), h .3))) }
 
-abbrev five : {P Q R S U : Type 0} → Decides P → Decides Q → Decides R → Decides S → Decides U → Decides (P × Q × R × S × U)
+abbrev pub five : {P Q R S U : Type 0} → Decides P → Decides Q → Decides R → Decides S → Decides U → Decides (P × Q × R × S × U)
 five a b c d e =
     let l = both (four a b c d) e in
     record { test = l .test; says = ((λ h. let x = l .says .0 h in (x .0 .0, x .0 .1, x .0 .2, x .0 .3, x .1)), (λ h. l .says .1 ((h .0, h .1, h .2, h .3), h .4))) }
@@ -184,31 +184,31 @@ module _ {P : Type 0} (d : Decides P) where
 
 module _ (p : Parameters) where
   -- the tests of lengths and of values
-  abbrev decFits : {E : Type 0} (s : Stored E) (xs : List E) → Decides (Fits s xs)
+  abbrev pub decFits : {E : Type 0} (s : Stored E) (xs : List E) → Decides (Fits s xs)
   decFits s xs = record { test = fits s xs; says = eqb-iff _ _ }
 
-  abbrev decInstance : (I : Instance) → Decides (FitsInstance p I)
+  abbrev pub decInstance : (I : Instance) → Decides (FitsInstance p I)
   decInstance I = both (decFits (matrixT p) (I .T)) (decFits (matrixD p) (I .D))
 
-  abbrev decJoined : (I : Instance) → Decides (FitsJoined p I)
+  abbrev pub decJoined : (I : Instance) → Decides (FitsJoined p I)
   decJoined I = both (decFits (joinedT p) (I .T)) (decFits (joinedD p) (I .D))
 
-  abbrev decMessage : (M : Message) → Decides (FitsMessage p M)
+  abbrev pub decMessage : (M : Message) → Decides (FitsMessage p M)
   decMessage M = three (decFits (matrixV p) (M .«V»)) (decFits (matrixT~ p) (M .T~)) (decFits (matrixD~ p) (M .D~))
 
-  abbrev decPrepared : (o : Prepared) → Decides (FitsPrepared p o)
+  abbrev pub decPrepared : (o : Prepared) → Decides (FitsPrepared p o)
   decPrepared o = both (decMessage (o .message)) (decFits (matrixS~ p) (o .S~))
 
-  abbrev decC : (C : List ℕ) → Decides (FitsC p C)
+  abbrev pub decC : (C : List ℕ) → Decides (FitsC p C)
   decC C = record { test = fitsC p C; says = eqb-iff _ _ }
 
-  abbrev decShort : (S : List ℤ) → Decides (Short p S)
+  abbrev pub decShort : (S : List ℤ) → Decides (Short p S)
   decShort S = record { test = short p S; says = short-iff p S }
 
-  abbrev decTernary : (C : List ℕ) → Decides (Ternary p C)
+  abbrev pub decTernary : (C : List ℕ) → Decides (Ternary p C)
   decTernary C = record { test = areTernary p C; says = ternary-iff p C }
 
-  abbrev decBounded : (rows cols M : ℕ) (X : Matrix) → Decides (Bounded rows cols M X)
+  abbrev pub decBounded : (rows cols M : ℕ) (X : Matrix) → Decides (Bounded rows cols M X)
   decBounded rows cols M X = record { test = bounded rows cols M X; says = bounded-iff rows cols M X }
 
   -- for each operation: no rule applies if and only if the call is proper
@@ -282,22 +282,22 @@ module _ (p : Parameters) where
         (λ h. f .1 (a .1 (h .0, h .1), fail d (h .2))),
       )
 
-  abbrev commitLens : (A : List ℕ) (S : List ℤ) (out : Instance) → Decides (CommitLengths p A S out)
+  abbrev pub commitLens : (A : List ℕ) (S : List ℤ) (out : Instance) → Decides (CommitLengths p A S out)
   commitLens A S out = three (decFits (matrixA p) A) (decFits (matrixS p) S) (decInstance out)
 
-  abbrev relationLens : (A : List ℕ) (I : Instance) (S : List ℤ) → Decides (RelationLengths p A I S)
+  abbrev pub relationLens : (A : List ℕ) (I : Instance) (S : List ℤ) → Decides (RelationLengths p A I S)
   relationLens A I S = three (decFits (matrixA p) A) (decInstance I) (decFits (matrixS p) S)
 
-  abbrev joinLens : (I₁ I₂ : Instance) («V» : List ℤ) (out : Instance) → Decides (JoinLengths p I₁ I₂ «V» out)
+  abbrev pub joinLens : (I₁ I₂ : Instance) («V» : List ℤ) (out : Instance) → Decides (JoinLengths p I₁ I₂ «V» out)
   joinLens I₁ I₂ «V» out = four (decInstance I₁) (decInstance I₂) (decFits (matrixV p) «V») (decJoined out)
 
-  abbrev messageLens : (A : List ℕ) (S₁ S₂ : List ℤ) (out : Prepared) → Decides (MessageLengths p A S₁ S₂ out)
+  abbrev pub messageLens : (A : List ℕ) (S₁ S₂ : List ℤ) (out : Prepared) → Decides (MessageLengths p A S₁ S₂ out)
   messageLens A S₁ S₂ out = four (decFits (matrixA p) A) (decFits (matrixS p) S₁) (decFits (matrixS p) S₂) (decPrepared out)
 
-  abbrev verdictLens : (I₁ I₂ : Instance) (M : Message) (C : List ℕ) (out : Instance) → Decides (VerdictLengths p I₁ I₂ M C out)
+  abbrev pub verdictLens : (I₁ I₂ : Instance) (M : Message) (C : List ℕ) (out : Instance) → Decides (VerdictLengths p I₁ I₂ M C out)
   verdictLens I₁ I₂ M C out = five (decInstance I₁) (decInstance I₂) (decMessage M) (decC C) (decInstance out)
 
-  abbrev witnessLens : (S~ : List ℤ) (C : List ℕ) (out : List ℤ) → Decides (WitnessLengths p S~ C out)
+  abbrev pub witnessLens : (S~ : List ℤ) (C : List ℕ) (out : List ℤ) → Decides (WitnessLengths p S~ C out)
   witnessLens S~ C out = three (decFits (matrixS~ p) S~) (decC C) (decFits (matrixS p) out)
 
   pub commit-7 : (A : List ℕ) (S : List ℤ) (out : Instance) → (firstOf (afterSetting p (commitRules p A S out)) ≡ 7) ↔ ((settingRefusal p ≡ 0) × (CommitLengths p A S out → ⊥))

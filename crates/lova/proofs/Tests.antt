@@ -3,14 +3,16 @@ use mathlib.Core.Path.{_≡_, ap}
 use mathlib.Core.Logic.{_↔_, ⊎-elim}
 use mathlib.Core.Bool.{Bool}
 use mathlib.Core.List.{List}
-use Prim.Native.Nat.{ℕ, zero, suc, _<_}
+use Prim.Native.Nat.{ℕ, zero, suc, _*_, _/_, _%_, _<_, _≤_}
 use native.Mathlib.Omega.{arith}
-use native.Mathlib.Nat.{eq-or-lt-of-le, le-of-suc-le-suc}
+use native.Mathlib.Nat.{eq-or-lt-of-le, le-of-suc-le-suc, div-add-mod', div-lt-iff-lt-mul, mod-lt}
 use lib.Dec.{T, eqb, leb→le, le→leb, eqb→eq, eqb-refl}
-use lib.IntN.{ℤ, pos, negsuc}
-use Rattle.integers.proofs.Tests.{and-fst, and-snd, and-both}
+use lib.IntN.{ℤ, pos, negsuc, natAbs}
+use lib.ListN.{length, getD, List·getD-eq-default}
+use Rattle.integers.proofs.Tests.{and-fst, and-snd, and-both, le-or-lt}
 use Rattle.integers.specs.Residues.{word}
 use Rattle.matrices.specs.Matrices.{Matrix, Agree}
+use Rattle.matrices.specs.Tables.{entry, signed}
 use Rattle.settings.specs.Settings.{Parameters, NOf}
 use Rattle.lova.specs.Tests.{all, every, eqZ, equal, equalWords, short, areTernary, bounded}
 use Rattle.lova.specs.Calls.{Short, Ternary, Bounded}
@@ -88,3 +90,15 @@ module _ (p : Parameters) where
     (λ h i j hi hj. leb→le _ _ (every-iff (NOf p) (p .t) _ .0 h i j hi hj)),
     (λ h. every-iff (NOf p) (p .t) _ .1 (λ i j hi hj. le→leb _ _ (h i j hi hj))),
   )
+
+-- what holds of each entry holds of each element of the list
+pub entries-everywhere : {E : Type 0} (d : E) (rows cols : ℕ) (P : E → Type 0) (xs : List E) → ((i j : ℕ) → i < rows → j < cols → P (entry d cols xs i j)) → (k : ℕ) → k < rows * cols → P (getD xs k d)
+entries-everywhere d rows zero P xs h k l = absurd (omega arith)
+entries-everywhere d rows (suc c) P xs h k l = rw (div-add-mod' k (suc c)) at (h (k / suc c) (k % suc c) (div-lt-iff-lt-mul (omega arith) .1 l) (mod-lt k (omega arith)))
+
+-- and a bound of a matrix holds past the list's end too
+pub bounded-everywhere : (rows cols M : ℕ) (xs : List ℤ) → length xs ≡ rows * cols → Bounded rows cols M (signed cols xs) → (k : ℕ) → natAbs (getD xs k (pos 0)) ≤ M
+bounded-everywhere rows cols M xs long h k = ⊎-elim
+    (λ (l : length xs ≤ k). rw (List·getD-eq-default xs (pos 0) {n = k} l) (omega arith))
+    (λ (l : k < length xs). entries-everywhere (pos 0) rows cols (λ z. natAbs z ≤ M) xs h k (omega arith))
+    (le-or-lt (length xs) k)

@@ -4,14 +4,9 @@ use Prim.Native.Nat.{ℕ, _+_, _*_, _<_, _≤_}
 use native.Mathlib.Omega.{arith}
 use native.Mathlib.Nat.{le-trans, mul-le-mul}
 use lib.IntN.{pos, natAbs, _*ℤ_}
-use Rattle.integers.specs.Sums.{sumℕ}
 use Rattle.integers.proofs.Sizes.{natAbs-*, square-natAbs}
 use Rattle.integers.proofs.Sums.{sum-cong, sumℕ-cong, sumℕ-le, sumℕ-term, natAbs-sum, products-squares, sum-pos}
-use Rattle.matrices.specs.Matrices.{Matrix, product, transposed, gram, bothSides, squaredLength}
-
--- the sizes of the p products that make an entry of X Y, summed: no partial sum is larger in size
-abbrev pub sizes : ℕ → Matrix → Matrix → ℕ → ℕ → ℕ
-sizes p X Y i j = sumℕ p (λ k. natAbs (X i k *ℤ Y k j))
+use Rattle.matrices.specs.Matrices.{Matrix, product, transposed, gram, bothSides, squaredLength, sizes}
 
 -- an entry of a product is no larger in size than that sum
 pub product-size : (p : ℕ) (X Y : Matrix) (i j : ℕ) → natAbs (product p X Y i j) ≤ sizes p X Y i j

@@ -1,21 +1,26 @@
 -- Lists that hold a matrix by rows: what stands in them, and how a loop fills one.
-use mathlib.Core.Path.{_≡_, sym, _∙_, ap}
+use mathlib.Core.Path.{_≡_, refl, sym, _∙_, ap}
 use mathlib.Core.Logic.{_↔_}
-use mathlib.Core.List.{List}
-use Prim.Native.Nat.{ℕ, zero, suc, _+_, _*_, _/_, _%_, _<_, _≤_}
+use mathlib.Core.List.{List, _++_}
+use Prim.Native.Nat.{ℕ, zero, suc, _+_, _*_, _-_, _/_, _%_, _<_, _≤_}
 use native.Mathlib.Omega.{arith}
 use native.Mathlib.Nat.{div-add-mod', div-lt-iff-lt-mul, mod-lt, add-mul, one-mul, suc-mul, mul-le-mul-right}
 use lib.Arith.{digits-lt, digits-div, digits-mod}
-use lib.ListN.{length, set}
+use lib.ListN.{length, getD, set, take, drop}
 use lib.Seq.{ext-getD}
 use lib.IntN.{ℤ}
-use Rattle.integers.proofs.Lists.{length-build, getD-build, Filled, filled-none, filled-more, filled-all}
+use Rattle.integers.specs.Lists.{build}
+use Rattle.integers.proofs.Lists.{length-build, getD-build, Filled, filled-none, filled-more, filled-part, filled-all}
 use Rattle.matrices.specs.Tables.{table, entry, entries}
 use Rattle.matrices.specs.Matrices.{Agree}
 
 -- row i of a matrix lies within its list
 pub row-within : (rows cols i : ℕ) → i < rows → i * cols + cols ≤ rows * cols
 row-within rows cols i h = omega (arith, suc-mul i cols, mul-le-mul-right cols h)
+
+-- and so do the p rows from row i on
+pub rows-within : (rows cols i p : ℕ) → i + p ≤ rows → i * cols + p * cols ≤ rows * cols
+rows-within rows cols i p h = omega (arith, add-mul i p cols, mul-le-mul-right cols h)
 
 module _ {A : Type 0} where
   -- a table has rows × cols elements
@@ -80,6 +85,21 @@ module _ {A : Type 0} (d : A) (rows cols : ℕ) (F : ℕ → ℕ → A) (out : L
 
   pub table-row : (i j : ℕ) → j ≡ cols → TableTo d rows cols F out (i * cols + j) → TableTo d rows cols F out ((i + 1) * cols)
   table-row i j e w = let next : (i + 1) * cols ≡ i * cols + j = omega (arith, add-mul i 1 cols, one-mul cols) in rw next w
+
+  -- row i was lent as a part of out, and has come back
+  pub table-part-of : (i : ℕ) (row : List A) (f : ℕ → A) → i < rows → row ≡ build cols f → ((j : ℕ) → j < cols → f j ≡ F i j)
+      → TableTo d rows cols F out (i * cols)
+      → TableTo d rows cols F (take (i * cols) out ++ (row ++ drop (i * cols + cols - i * cols) (drop (i * cols) out))) ((i + 1) * cols)
+  table-part-of i row f hi e same w =
+      let next : (i + 1) * cols ≡ i * cols + cols = omega (arith, add-mul i 1 cols, one-mul cols) in
+      let size : i * cols + cols - i * cols ≡ cols = omega arith in
+      rw (next, size) (filled-part (rows * cols) (λ x. F (x / cols) (x % cols)) d (i * cols) cols out row (row-within rows cols i hi) (ap length e ∙ length-build cols f)
+      (λ j h. ap (λ (xs : List A). getD xs j d) e ∙ getD-build cols f j d h ∙ same j h ∙ rw (digits-div i h, digits-mod i h)) w)
+
+  -- the same where the row is the table's own
+  pub table-part : (i : ℕ) (row : List A) → i < rows → row ≡ build cols (F i) → TableTo d rows cols F out (i * cols)
+      → TableTo d rows cols F (take (i * cols) out ++ (row ++ drop (i * cols + cols - i * cols) (drop (i * cols) out))) ((i + 1) * cols)
+  table-part i row hi e w = table-part-of i row (F i) hi e (λ j h. refl) w
 
   pub table-all : (i : ℕ) → rows ≤ i → TableTo d rows cols F out (i * cols) → out ≡ table rows cols F
   unfolding table

@@ -28,6 +28,10 @@ bothSides p C D = product p (product p (transposed C) D) C
 abbrev pub squaredLength : ℕ → Matrix → ℕ → ℕ
 squaredLength m X j = sumℕ m (λ i. natAbs (X i j) * natAbs (X i j))
 
+-- the sizes of the p products that make an entry of X Y, summed: no partial sum is larger in size
+abbrev pub sizes : ℕ → Matrix → Matrix → ℕ → ℕ → ℕ
+sizes p X Y i j = sumℕ p (λ k. natAbs (X i k *ℤ Y k j))
+
 -- two matrices have the same entries in the first rows and columns
 abbrev pub Agree : {A : Type 0} → ℕ → ℕ → (ℕ → ℕ → A) → (ℕ → ℕ → A) → Type 0
 Agree rows cols X Y = (i j : ℕ) → i < rows → j < cols → X i j ≡ Y i j

@@ -1,4 +1,4 @@
--- What an accepted setting has, for the operations to cite.
+-- What an accepted setting has, and how the constructor's answer is read.
 use mathlib.Core.Path.{_≡_, refl, sym, ap, subst, _∙_}
 use mathlib.Core.Logic.{_≢_}
 use Prim.Native.Nat.{ℕ, zero, suc, _+_, _-_, _*_, _^_, _≤_, _<_}
@@ -14,6 +14,7 @@ use Rattle.settings.proofs.Levels.{pow-two, L-above}
 use Rattle.settings.proofs.Levels as Levels
 use Rattle.settings.proofs.Powers.{repunit-reaches}
 
+-- all that the operations need of an accepted setting
 pub record Accepted (p : Parameters) : Type 0 where
   pub n-low : 1 ≤ p .n
   pub n-high : p .n ≤ 64

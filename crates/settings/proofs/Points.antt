@@ -32,7 +32,7 @@ _has_ p cs = record { setting = p; claims = cs }
 abbrev pub points : List Point
 points =
     -- document 01's points
-    (parameters 1 1 1 2 100 has (settingRefusal is 0 ∷ kOf is 5 ∷ growthOf is 100 ∷ []))
+    (parameters 1 1 1 2 100 has (settingRefusal is 0 ∷ kOf is 5 ∷ NOf is 10 ∷ growthOf is 100 ∷ []))
     ∷ (parameters 1 1 1 2 99 has (settingRefusal is 5 ∷ []))
     ∷ (parameters 1 4096 1 2 (4 ^ 24 - 1) has (settingRefusal is 0 ∷ kOf is 25 ∷ []))
     ∷ (parameters 1 4096 1 2 (4 ^ 24) has (settingRefusal is 6 ∷ []))

@@ -1,0 +1,4 @@
+pub mod Small
+pub mod Dots
+pub mod Columns
+pub mod Rows

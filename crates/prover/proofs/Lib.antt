@@ -1,0 +1,3 @@
+pub mod DigitRows
+pub mod Folding
+pub mod Preparing

@@ -1,0 +1,85 @@
+// The tests of slices that refusals rest on.
+ghost use mathlib.Core.Path.{_≡_};
+ghost use mathlib.Core.Bool.{_&&_};
+ghost use Prim.Native.Nat.{_*_};
+ghost use lib.Dec.{leb};
+ghost use lib.ListN.{length};
+ghost use Rattle.matrices.specs.Matrices.{squaredLength};
+ghost use Rattle.matrices.specs.Tables.{entry, signed};
+ghost use Rattle.settings.specs.Settings.{parametersOf};
+ghost use Rattle.lova.specs.Tests.{all, every, bounded, fitsInstance, fitsMessage};
+ghost use Rattle.lova.specs.Calls.{Rebuilt};
+use settings::Setting;
+
+// Whether each column of s, which has m rows and `cols` columns, has a squared length of at most `bound`.
+pub fn columns_within(s: &[i64], m: usize, cols: usize, bound: u64) -> bool
+    requires { ⌜ length (now s) ≡ m * cols ⌝ }
+    ensures { λ r. ⌜ r ≡ all cols (λ j. leb (squaredLength m (signed cols (now (s .entry))) j) bound) ⌝ }
+{
+    let mut j: usize = 0;
+    while j < cols {
+        if !matrices::column_within(s, m, cols, j, bound) {
+            return false;
+        }
+        j += 1;
+    }
+    true
+}
+
+// Whether each byte of c is 0, 1 or 2.
+pub fn are_ternary(c: &[u8], rows: usize, cols: usize) -> bool
+    requires { ⌜ length (now c) ≡ rows * cols ⌝ }
+    ensures { λ r. ⌜ r ≡ every rows cols (λ i j. leb (entry 0 cols (now (c .entry)) i j) 2) ⌝ }
+{
+    let mut x: usize = 0;
+    while x < c.len() {
+        if 2 < c[x] {
+            return false;
+        }
+        x += 1;
+    }
+    true
+}
+
+// Whether each entry of x is at most `limit` in size.
+pub fn entries_within(x: &[i64], rows: usize, cols: usize, limit: u64) -> bool
+    requires { ⌜ length (now x) ≡ rows * cols ⌝ }
+    ensures { λ r. ⌜ r ≡ bounded rows cols limit (signed cols (now (x .entry))) ⌝ }
+{
+    let mut i: usize = 0;
+    while i < x.len() {
+        if limit < integers::size(x[i]) {
+            return false;
+        }
+        i += 1;
+    }
+    true
+}
+
+// Whether t and d have the lengths of an instance's T and D.
+pub fn instance_fits(setting: Setting, t: &[u64], d: &[i64]) -> bool
+    requires { ⌜ Rebuilt setting ⌝ }
+    ensures { λ r. ⌜ r ≡ fitsInstance (parametersOf setting) (record { T = now (t .entry); D = now (d .entry) }) ⌝ }
+{
+    t.len() == setting.n * setting.t && d.len() == setting.t * setting.t
+}
+
+// Whether both hold. Lengths are joined by it, so that a test of many has no branch of its own for each.
+pub fn both(a: bool, b: bool) -> bool
+    ensures { λ r. ⌜ r ≡ (a && b) ⌝ }
+{
+    a && b
+}
+
+// Whether v, tt and dd have the lengths of a message's V, T~ and D~.
+pub fn message_fits(setting: Setting, v: &[i64], tt: &[u64], dd: &[i64]) -> bool
+    requires { ⌜ Rebuilt setting ⌝ }
+    ensures { λ r. ⌜ r ≡ fitsMessage (parametersOf setting) (record { «V» = now (v .entry); T~ = now (tt .entry); D~ = now (dd .entry) }) ⌝ }
+{
+    let wide = setting.columns;
+    let first = both(
+        v.len() == setting.t * setting.t,
+        tt.len() == setting.n * wide,
+    );
+    both(first, dd.len() == wide * wide)
+}

@@ -1,0 +1,5 @@
+pub mod Comparisons
+pub mod Lengths
+pub mod Parts
+pub mod Recomposition
+pub mod Verifying
