@@ -4,6 +4,7 @@
 #![allow(clippy::too_many_arguments)]
 
 pub mod chain;
+pub mod chain_files;
 pub mod digits;
 pub mod matrices;
 pub mod operations;

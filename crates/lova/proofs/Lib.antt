@@ -1,5 +1,6 @@
 pub mod Meanings
 pub mod Tests
+pub mod Comparisons
 pub mod Blocks
 pub mod Gadget
 pub mod Refusals

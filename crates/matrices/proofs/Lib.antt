@@ -1,5 +1,6 @@
 pub mod Matrices
 pub mod Tables
+pub mod Ternary
 pub mod Bounds
 pub mod Turns
 pub mod Examples

@@ -1,0 +1,71 @@
+-- The definitions, computed: the example that document 01 prints, and a refusal of each kind.
+use mathlib.Core.Path.{_≡_, refl}
+use mathlib.Core.List.{List, [], _∷_}
+use Prim.Native.Nat.{ℕ}
+use Rattle.integers.specs.Lists.{build}
+use Rattle.integers.specs.Sums.{sum, sumℕ}
+use Rattle.integers.specs.Residues.{residue}
+use Rattle.matrices.specs.Tables.{table, ternary}
+use Rattle.settings.specs.Rules.{firstOf}
+use Rattle.settings.specs.Settings.{greatest, LOf, repunit}
+use Rattle.digits.specs.Digits.{stepOf, restOf, digitOf}
+use Rattle.lova.specs.Answers.{unlessRefused}
+use Rattle.lova.specs.Tests.{all, every, eqZ, short, areTernary}
+use Rattle.lova.specs.Fold.{beside, above, digitWitness, gadget}
+use Rattle.lova.specs.Commit.{commitRules, instanceOf, commit}
+use Rattle.lova.specs.Relation.{relationRules, productsHold, commitmentHolds, memberWord, relation}
+use Rattle.lova.specs.Message.{messageRules, preparedOf, message}
+use Rattle.lova.specs.Verdict.{verdictRules, firstHolds, secondHolds, foldedInstance, verdictBy, verdict}
+use Rattle.lova.specs.Witness.{witnessRules, foldedWitness, witness}
+use Rattle.numerals.specs.Numerals.{isDigit, areDigits, isPlain, valueFrom, naturalFrom, natural, withoutMinus, withMinus, integer, fitUnsigned, fitSigned, readUnsigned, readSigned, unsignedOf, signedOf, decimalIn, decimal, decimalZ}
+use Rattle.text.specs.Fields.{onto, cutAt, same, push, exactly, afterWord, recordOf, readU64, readI64, readTernary}
+use Rattle.text.specs.Lines.{tabbed, joined, lineOf}
+use Rattle.chain.specs.Limits.{small}
+use Rattle.chain.specs.Nodes.{refuses, unlessRefusing, foldAnswer, callsOf, foldOf}
+use Rattle.chain.specs.Reports.{wordOf, leafLine, foldLine, endLine, refusedLine}
+use Rattle.chain.specs.Chain.{numberOf, onSetting, onParam, onMatrix, onLeaf, onChallenge, takeDue, badLine, takeLine, endDue, atEnd}
+use Rattle.chain.specs.Program.{printed, program}
+
+-- the printed example
+abbrev example : Type 0
+example = program (112 ∷ 97 ∷ 114 ∷ 97 ∷ 109 ∷ 9 ∷ 49 ∷ 9 ∷ 49 ∷ 9 ∷ 49 ∷ 9 ∷ 50 ∷ 9 ∷ 49 ∷ 48 ∷ 48 ∷ 10 ∷ 97 ∷ 9 ∷ 51 ∷ 10 ∷ 108 ∷ 101 ∷ 97 ∷ 102 ∷ 9 ∷ 55 ∷ 10 ∷ 108 ∷ 101 ∷ 97 ∷ 102 ∷ 9 ∷ 45 ∷ 53 ∷ 10 ∷ 99 ∷ 9 ∷ 49 ∷ 9 ∷ 49 ∷ 9 ∷ 49 ∷ 9 ∷ 48 ∷ 9 ∷ 48 ∷ 9 ∷ 45 ∷ 49 ∷ 9 ∷ 48 ∷ 9 ∷ 45 ∷ 49 ∷ 9 ∷ 48 ∷ 9 ∷ 48 ∷ 10 ∷ []) ≡ (108 ∷ 101 ∷ 97 ∷ 102 ∷ 9 ∷ 49 ∷ 9 ∷ 50 ∷ 49 ∷ 9 ∷ 52 ∷ 57 ∷ 10 ∷ 108 ∷ 101 ∷ 97 ∷ 102 ∷ 9 ∷ 50 ∷ 9 ∷ 49 ∷ 56 ∷ 52 ∷ 52 ∷ 54 ∷ 55 ∷ 52 ∷ 52 ∷ 48 ∷ 55 ∷ 51 ∷ 55 ∷ 48 ∷ 57 ∷ 53 ∷ 53 ∷ 49 ∷ 54 ∷ 48 ∷ 49 ∷ 9 ∷ 50 ∷ 53 ∷ 10 ∷ 102 ∷ 111 ∷ 108 ∷ 100 ∷ 9 ∷ 49 ∷ 9 ∷ 121 ∷ 101 ∷ 115 ∷ 9 ∷ 49 ∷ 53 ∷ 9 ∷ 50 ∷ 53 ∷ 10 ∷ 101 ∷ 110 ∷ 100 ∷ 9 ∷ 49 ∷ 9 ∷ 109 ∷ 101 ∷ 109 ∷ 98 ∷ 101 ∷ 114 ∷ 10 ∷ [])
+
+-- one leaf ends with no fold
+abbrev one-leaf : Type 0
+one-leaf = program (112 ∷ 97 ∷ 114 ∷ 97 ∷ 109 ∷ 9 ∷ 49 ∷ 9 ∷ 49 ∷ 9 ∷ 49 ∷ 9 ∷ 50 ∷ 9 ∷ 49 ∷ 48 ∷ 48 ∷ 10 ∷ 97 ∷ 9 ∷ 51 ∷ 10 ∷ 108 ∷ 101 ∷ 97 ∷ 102 ∷ 9 ∷ 55 ∷ 10 ∷ []) ≡ (108 ∷ 101 ∷ 97 ∷ 102 ∷ 9 ∷ 49 ∷ 9 ∷ 50 ∷ 49 ∷ 9 ∷ 52 ∷ 57 ∷ 10 ∷ 101 ∷ 110 ∷ 100 ∷ 9 ∷ 48 ∷ 9 ∷ 109 ∷ 101 ∷ 109 ∷ 98 ∷ 101 ∷ 114 ∷ 10 ∷ [])
+
+-- a missing line has the number after the last
+abbrev empty : Type 0
+empty = program [] ≡ (114 ∷ 101 ∷ 102 ∷ 117 ∷ 115 ∷ 101 ∷ 100 ∷ 9 ∷ 49 ∷ 9 ∷ 49 ∷ 51 ∷ 10 ∷ [])
+
+-- what was printed stays
+abbrev challenge-missing : Type 0
+challenge-missing = program (112 ∷ 97 ∷ 114 ∷ 97 ∷ 109 ∷ 9 ∷ 49 ∷ 9 ∷ 49 ∷ 9 ∷ 49 ∷ 9 ∷ 50 ∷ 9 ∷ 49 ∷ 48 ∷ 48 ∷ 10 ∷ 97 ∷ 9 ∷ 51 ∷ 10 ∷ 108 ∷ 101 ∷ 97 ∷ 102 ∷ 9 ∷ 55 ∷ 10 ∷ 108 ∷ 101 ∷ 97 ∷ 102 ∷ 9 ∷ 45 ∷ 53 ∷ 10 ∷ []) ≡ (108 ∷ 101 ∷ 97 ∷ 102 ∷ 9 ∷ 49 ∷ 9 ∷ 50 ∷ 49 ∷ 9 ∷ 52 ∷ 57 ∷ 10 ∷ 108 ∷ 101 ∷ 97 ∷ 102 ∷ 9 ∷ 50 ∷ 9 ∷ 49 ∷ 56 ∷ 52 ∷ 52 ∷ 54 ∷ 55 ∷ 52 ∷ 52 ∷ 48 ∷ 55 ∷ 51 ∷ 55 ∷ 48 ∷ 57 ∷ 53 ∷ 53 ∷ 49 ∷ 54 ∷ 48 ∷ 49 ∷ 9 ∷ 50 ∷ 53 ∷ 10 ∷ 114 ∷ 101 ∷ 102 ∷ 117 ∷ 115 ∷ 101 ∷ 100 ∷ 9 ∷ 53 ∷ 9 ∷ 49 ∷ 51 ∷ 10 ∷ [])
+
+-- a last line without its line feed is bad, whatever it says
+abbrev no-line-feed : Type 0
+no-line-feed = program (112 ∷ 97 ∷ 114 ∷ 97 ∷ 109 ∷ 9 ∷ 49 ∷ 9 ∷ 49 ∷ 9 ∷ 49 ∷ 9 ∷ 50 ∷ 9 ∷ 57 ∷ 57 ∷ []) ≡ (114 ∷ 101 ∷ 102 ∷ 117 ∷ 115 ∷ 101 ∷ 100 ∷ 9 ∷ 49 ∷ 9 ∷ 49 ∷ 51 ∷ 10 ∷ [])
+
+-- a setting that growth refuses
+abbrev growth : Type 0
+growth = program (112 ∷ 97 ∷ 114 ∷ 97 ∷ 109 ∷ 9 ∷ 49 ∷ 9 ∷ 49 ∷ 9 ∷ 49 ∷ 9 ∷ 50 ∷ 9 ∷ 57 ∷ 57 ∷ 10 ∷ []) ≡ (114 ∷ 101 ∷ 102 ∷ 117 ∷ 115 ∷ 101 ∷ 100 ∷ 9 ∷ 49 ∷ 9 ∷ 53 ∷ 10 ∷ [])
+
+-- 1 to 6 come before 14
+abbrev growth-first : Type 0
+growth-first = program (112 ∷ 97 ∷ 114 ∷ 97 ∷ 109 ∷ 9 ∷ 57 ∷ 9 ∷ 49 ∷ 9 ∷ 49 ∷ 9 ∷ 50 ∷ 9 ∷ 57 ∷ 57 ∷ 10 ∷ []) ≡ (114 ∷ 101 ∷ 102 ∷ 117 ∷ 115 ∷ 101 ∷ 100 ∷ 9 ∷ 49 ∷ 9 ∷ 53 ∷ 10 ∷ [])
+
+-- a setting that is too large for the program
+abbrev too-large : Type 0
+too-large = program (112 ∷ 97 ∷ 114 ∷ 97 ∷ 109 ∷ 9 ∷ 57 ∷ 9 ∷ 49 ∷ 9 ∷ 49 ∷ 9 ∷ 50 ∷ 9 ∷ 49 ∷ 48 ∷ 48 ∷ 10 ∷ []) ≡ (114 ∷ 101 ∷ 102 ∷ 117 ∷ 115 ∷ 101 ∷ 100 ∷ 9 ∷ 49 ∷ 9 ∷ 49 ∷ 52 ∷ 10 ∷ [])
+
+-- a column above B
+abbrev too-long : Type 0
+too-long = program (112 ∷ 97 ∷ 114 ∷ 97 ∷ 109 ∷ 9 ∷ 49 ∷ 9 ∷ 49 ∷ 9 ∷ 49 ∷ 9 ∷ 50 ∷ 9 ∷ 49 ∷ 48 ∷ 48 ∷ 10 ∷ 97 ∷ 9 ∷ 51 ∷ 10 ∷ 108 ∷ 101 ∷ 97 ∷ 102 ∷ 9 ∷ 49 ∷ 49 ∷ 10 ∷ []) ≡ (114 ∷ 101 ∷ 102 ∷ 117 ∷ 115 ∷ 101 ∷ 100 ∷ 9 ∷ 51 ∷ 9 ∷ 56 ∷ 10 ∷ [])
+
+-- a line that is not due
+abbrev not-due : Type 0
+not-due = program (112 ∷ 97 ∷ 114 ∷ 97 ∷ 109 ∷ 9 ∷ 49 ∷ 9 ∷ 49 ∷ 9 ∷ 49 ∷ 9 ∷ 50 ∷ 9 ∷ 49 ∷ 48 ∷ 48 ∷ 10 ∷ 108 ∷ 101 ∷ 97 ∷ 102 ∷ 9 ∷ 55 ∷ 10 ∷ []) ≡ (114 ∷ 101 ∷ 102 ∷ 117 ∷ 115 ∷ 101 ∷ 100 ∷ 9 ∷ 50 ∷ 9 ∷ 49 ∷ 51 ∷ 10 ∷ [])
+
+pub examples : example × one-leaf × empty × challenge-missing × no-line-feed × growth × growth-first × too-large × too-long × not-due
+unfolding build sum sumℕ residue table ternary firstOf greatest LOf repunit stepOf restOf digitOf unlessRefused all every eqZ short areTernary beside above digitWitness gadget commitRules instanceOf commit relationRules productsHold commitmentHolds memberWord relation messageRules preparedOf message verdictRules firstHolds secondHolds foldedInstance verdictBy verdict witnessRules foldedWitness witness isDigit areDigits isPlain valueFrom naturalFrom natural withoutMinus withMinus integer fitUnsigned fitSigned readUnsigned readSigned unsignedOf signedOf decimalIn decimal decimalZ onto cutAt same push exactly afterWord recordOf readU64 readI64 readTernary tabbed joined lineOf small refuses unlessRefusing foldAnswer callsOf foldOf wordOf leafLine foldLine endLine refusedLine numberOf onSetting onParam onMatrix onLeaf onChallenge takeDue badLine takeLine endDue atEnd printed program
+examples = (refl, refl, refl, refl, refl, refl, refl, refl, refl, refl)

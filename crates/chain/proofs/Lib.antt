@@ -1,0 +1,7 @@
+pub mod Bytes
+pub mod Counts
+pub mod Refusing
+pub mod Reached
+pub mod Trees
+pub mod Examples
+pub mod Theorems

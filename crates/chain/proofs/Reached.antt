@@ -1,0 +1,277 @@
+-- What a run has come to after some lines: the accumulated instance and witness are those of the left-leaning tree of the leaves and
+-- challenges read so far.
+use mathlib.Core.Path.{_≡_, refl, sym, _∙_, ap, subst}
+use mathlib.Core.Bool.{Bool, true, false, not, cond, true≢false}
+use mathlib.Core.List.{List, [], _∷_, _++_, append-assoc, append-nil}
+use mathlib.Core.Option.{Option, some, none}
+use Prim.Native.Nat.{ℕ, zero, suc, _+_, _*_, _≤_, _<_}
+use native.Mathlib.Omega.{arith}
+use lib.Arith.{digits-lt}
+use lib.Dec.{leb, le→leb}
+use lib.IntN.{ℤ}
+use lib.ListN.{length}
+use Rattle.integers.proofs.Tests.{true-is}
+use Rattle.settings.specs.Rules.{Rule, _gives_, firstOf}
+use Rattle.settings.specs.Settings.{Parameters, limits, settingRules, settingRefusal}
+use Rattle.settings.proofs.Rules.{stop-all}
+use Rattle.text.specs.Fields.{recordOf, readU64, readI64, readTernary}
+use Rattle.text.proofs.Records.{record-each, ternary-each, each-at}
+use Rattle.lova.specs.Answers.{done, «yes», member, refused, Outcome, ends, unlessRefused, afterSetting}
+use Rattle.lova.specs.Stored.{matrixA, matrixS, sizeC}
+use Rattle.lova.specs.Calls.{Fits, Short}
+use Rattle.lova.specs.Commit.{commitRules, instanceOf, commit}
+use Rattle.lova.specs.Trees.{Tree, leaf, fold, Proper, seen, viewOf, leftWitness}
+use Rattle.lova.proofs.Refusals.{commit-proper}
+use Rattle.chain.specs.Limits.{small, programLimits, programRules}
+use Rattle.chain.specs.Nodes.{Node, blankInstance, refuses, foldOf}
+use Rattle.chain.specs.Reports.{leafWord, foldLine, endLine}
+use Rattle.chain.specs.Chain.{State, Counts, Stage, param, matrix, first, challenge, stopped, Step, start, fromFive, onSetting, onParam, onMatrix, onLeaf, onChallenge, takeDue, badLine, takeLine, endDue, atEnd, longestLine, paramWord, aWord, cWord}
+use Rattle.chain.specs.Chain as Chain
+use Rattle.chain.specs.Program.{stateAfter}
+use Rattle.chain.specs.Trees.{blankHeld, treeNode, Spells, one, more}
+use Rattle.chain.proofs.Trees.{fold-is, member-is}
+
+-- a record has as many numbers as were asked for
+record-length : {A : Type 0} (read : List ℕ → Option A) (word : List ℕ) (n : ℕ) (line : List ℕ) (xs : List A) → recordOf read word n line ≡ some xs → length xs ≡ n
+record-length read word n line xs e = record-each read (λ _. Unit {0}) (λ f x h. tt) word n line xs e .0
+
+-- ---- what a run has come to
+
+-- `param` was taken
+record Opened (ls : List (List ℕ)) (p : Parameters) : Type 0 where
+  line : List ℕ
+  xs : List ℕ
+  lines-are : ls ≡ line ∷ []
+  reads-param : recordOf readU64 paramWord 5 line ≡ some xs
+  p-is : p ≡ fromFive xs
+  ok : settingRefusal p ≡ 0
+
+-- `a` was taken
+record Keyed (ls : List (List ℕ)) (p : Parameters) (A : List ℕ) : Type 0 where
+  before : List (List ℕ)
+  line : List ℕ
+  lines-are : ls ≡ before ++ (line ∷ [])
+  opened : Opened before p
+  reads-a : recordOf readU64 aWord (matrixA p .size) line ≡ some A
+
+-- leaves and challenges were taken: the lines spell a tree, and the accumulated node is its root
+pub record Grown (ls : List (List ℕ)) (p : Parameters) (A : List ℕ) (node : Node) : Type 0 where
+  pub tree : Tree
+  pub spells : Spells ls p A tree
+  pub ok : settingRefusal p ≡ 0
+  pub sizeA : Fits (matrixA p) A
+  pub proper : Proper p tree
+  pub node-is : node ≡ treeNode p A tree
+
+-- a leaf waits for its challenge
+pub record Waiting (ls : List (List ℕ)) (p : Parameters) (A : List ℕ) (node new : Node) : Type 0 where
+  pub before : List (List ℕ)
+  pub line : List ℕ
+  pub S : List ℤ
+  pub lines-are : ls ≡ before ++ (line ∷ [])
+  pub grown : Grown before p A node
+  pub reads-leaf : recordOf readI64 leafWord (matrixS p .size) line ≡ some S
+  pub proper : Proper p (leaf S)
+  pub new-is : new ≡ treeNode p A (leaf S)
+
+abbrev Reached : List (List ℕ) → Stage → Type 0
+Reached ls param = ls ≡ []
+Reached ls (matrix p) = Opened ls p
+Reached ls (first p A) = Keyed ls p A
+Reached ls (Chain.leaf p A node) = Grown ls p A node
+Reached ls (challenge p A node new) = Waiting ls p A node new
+Reached ls stopped = Unit {0}
+
+-- the program's rules take in the setting's
+set-ok : (xs ys : List Rule) → firstOf (xs ++ ys) ≡ 0 → firstOf xs ≡ 0
+set-ok xs ys e = by (firstOf xs) refl
+  where
+    by : (k : ℕ) → firstOf xs ≡ k → firstOf xs ≡ 0
+    by zero h = h
+    by (suc k) h = sym (stop-all xs ys (λ z. omega (arith, h, z))) ∙ e
+
+accepted : (p : Parameters) → firstOf (programRules p) ≡ 0 → settingRefusal p ≡ 0
+unfolding settingRefusal
+accepted p e = set-ok (settingRules limits p) ((not (small programLimits p) gives 14) ∷ []) e
+
+spell-one : (l₁ l₂ l₃ xs A : List ℕ) (S : List ℤ) (p : Parameters) → p ≡ fromFive xs
+    → recordOf readU64 paramWord 5 l₁ ≡ some xs → recordOf readU64 aWord (matrixA p .size) l₂ ≡ some A → recordOf readI64 leafWord (matrixS p .size) l₃ ≡ some S
+    → Spells (l₁ ∷ l₂ ∷ l₃ ∷ []) p A (leaf S)
+spell-one l₁ l₂ l₃ xs A S p e h₁ =
+    subst (λ (q : Parameters). recordOf readU64 aWord (matrixA q .size) l₂ ≡ some A → recordOf readI64 leafWord (matrixS q .size) l₃ ≡ some S → Spells (l₁ ∷ l₂ ∷ l₃ ∷ []) q A (leaf S))
+    (sym e) (λ h₂ h₃. one l₁ l₂ l₃ xs A S h₁ h₂ h₃)
+
+-- the node of a leaf
+leaf-node : (p : Parameters) (A : List ℕ) → settingRefusal p ≡ 0 → Fits (matrixA p) A → (S : List ℤ) → Proper p (leaf S)
+    → _≡_ {A = Node} (record { instance = (commit p A S (blankInstance p)) .outputs; witness = S }) (treeNode p A (leaf S))
+unfolding treeNode seen viewOf leftWitness blankHeld
+leaf-node p A ok sizeA S proper = refl
+
+-- a challenge that was read is proper
+fold-proper : (p : Parameters) (t : Tree) (S : List ℤ) (C line : List ℕ) → recordOf readTernary cWord (sizeC p) line ≡ some C → Proper p t → Proper p (leaf S) → Proper p (fold t (leaf S) C)
+unfolding Proper
+fold-proper p t S C line h g k =
+    let r = ternary-each cWord (sizeC p) line C h in
+    (g, k, (r .0, λ i j u v. each-at (λ x. x ≤ 2) C 0 (r .1) (i * p .t + j) (subst (λ (q : ℕ). i * p .t + j < q) (sym (r .0)) (digits-lt u v))))
+
+-- the fold of the accumulated node with the new leaf is the node of the larger tree
+fold-node : (ls : List (List ℕ)) (n : Counts) (line : List ℕ) (p : Parameters) (A : List ℕ) (acc new : Node) (r : Waiting ls p A acc new) (C : List ℕ)
+    → recordOf readTernary cWord (sizeC p) line ≡ some C → foldOf p A acc new C ≡ ends «yes» (treeNode p A (fold (r .grown .tree) (leaf (r .S)) C))
+fold-node ls n line p A acc new r C h =
+    let g = r .grown in
+    rw (g .node-is, r .new-is) (fold-is p A (g .ok) (g .sizeA) (g .tree) (leaf (r .S)) C (fold-proper p (g .tree) (r .S) C line h (g .proper) (r .proper)))
+
+either : (ls : List (List ℕ)) (c : Bool) (s t : Step) → Reached ls (s .state .stage) → (c ≡ false → Reached ls (t .state .stage)) → Reached ls ((cond c s t) .state .stage)
+either ls true s t h g = h
+either ls false s t h g = g refl
+
+module _ (ls : List (List ℕ)) (n : Counts) (line : List ℕ) where
+  abbrev more-lines : List (List ℕ)
+  more-lines = ls ++ (line ∷ [])
+
+  at-setting : (p : Parameters) (r : ℕ) → (r ≡ 0 → Opened more-lines p) → Reached more-lines (onSetting n p r .state .stage)
+  unfolding onSetting
+  at-setting p zero h = h refl
+  at-setting p (suc r) h = tt
+
+  at-param : ls ≡ [] → (o : Option (List ℕ)) → recordOf readU64 paramWord 5 line ≡ o → Reached more-lines (onParam n o .state .stage)
+  unfolding onParam
+  at-param e none h = tt
+  at-param e (some xs) h =
+      at-setting (fromFive xs) (firstOf (programRules (fromFive xs)))
+      (λ z. record { line = line; xs = xs; lines-are = rw e refl; reads-param = h; p-is = refl; ok = accepted (fromFive xs) z })
+
+  at-matrix : (p : Parameters) → Opened ls p → (o : Option (List ℕ)) → recordOf readU64 aWord (matrixA p .size) line ≡ o → Reached more-lines (onMatrix n p o .state .stage)
+  unfolding onMatrix
+  at-matrix p r none h = tt
+  at-matrix p r (some A) h = record { before = ls; line = line; lines-are = refl; opened = r; reads-a = h }
+
+  -- a leaf that is not refused has columns within B
+  leaf-proper : (p : Parameters) (A : List ℕ) (S : List ℤ) → recordOf readI64 leafWord (matrixS p .size) line ≡ some S → refuses ((commit p A S (blankInstance p)) .answer) ≡ false → Proper p (leaf S)
+  unfolding commit unlessRefused refuses Proper
+  leaf-proper p A S h e = (record-length readI64 leafWord (matrixS p .size) line S h, by (firstOf (afterSetting p (commitRules p A S (blankInstance p)))) refl e)
+    where
+      by : (k : ℕ) → firstOf (afterSetting p (commitRules p A S (blankInstance p))) ≡ k → refuses (unlessRefused k (blankInstance p) (ends done (instanceOf p A S)) .answer) ≡ false → Short p S
+      by zero z f = commit-proper p A S (blankInstance p) .0 z .columns
+      by (suc k) z f = absurd (true≢false f)
+
+  at-leaf : (p : Parameters) (A : List ℕ) (after : Node → Stage)
+      → ((S : List ℤ) → recordOf readI64 leafWord (matrixS p .size) line ≡ some S → Proper p (leaf S) → Reached more-lines (after (record { instance = (commit p A S (blankInstance p)) .outputs; witness = S })))
+      → (o : Option (List ℤ)) → recordOf readI64 leafWord (matrixS p .size) line ≡ o → Reached more-lines (onLeaf n p A after o .state .stage)
+  unfolding onLeaf
+  at-leaf p A after g none h = tt
+  at-leaf p A after g (some S) h = either more-lines (refuses ((commit p A S (blankInstance p)) .answer)) _ _ tt (λ e. g S h (leaf-proper p A S h e))
+
+  -- the first leaf
+  at-first : (p : Parameters) (A : List ℕ) → Keyed ls p A → (o : Option (List ℤ)) → recordOf readI64 leafWord (matrixS p .size) line ≡ o
+      → Reached more-lines (onLeaf n p A (λ node. Chain.leaf p A node) o .state .stage)
+  at-first p A r = at-leaf p A (λ node. Chain.leaf p A node) (λ S h proper. first-grown S h proper)
+    where
+      sizeA : Fits (matrixA p) A
+      sizeA = record-length readU64 aWord (matrixA p .size) (r .line) A (r .reads-a)
+
+      -- the three lines spell the leaf
+      spelled : (S : List ℤ) → recordOf readI64 leafWord (matrixS p .size) line ≡ some S → Spells more-lines p A (leaf S)
+      spelled S h =
+          let o = r .opened in
+          let are : more-lines ≡ o .line ∷ r .line ∷ line ∷ [] = rw (r .lines-are, o .lines-are) refl in
+          subst (λ (m : List (List ℕ)). Spells m p A (leaf S)) (sym are)
+          (spell-one (o .line) (r .line) line (o .xs) A S p (o .p-is) (o .reads-param) (r .reads-a) h)
+
+      first-grown : (S : List ℤ) → recordOf readI64 leafWord (matrixS p .size) line ≡ some S → Proper p (leaf S)
+          → Grown more-lines p A (record { instance = (commit p A S (blankInstance p)) .outputs; witness = S })
+      first-grown S h proper =
+          record { tree = leaf S; spells = spelled S h; ok = r .opened .ok; sizeA = sizeA; proper = proper; node-is = leaf-node p A (r .opened .ok) sizeA S proper }
+
+  -- a further leaf
+  at-next : (p : Parameters) (A : List ℕ) (acc : Node) → Grown ls p A acc → (o : Option (List ℤ)) → recordOf readI64 leafWord (matrixS p .size) line ≡ o
+      → Reached more-lines (onLeaf n p A (λ node. challenge p A acc node) o .state .stage)
+  at-next p A acc r = at-leaf p A (λ node. challenge p A acc node)
+      (λ S h proper. record { before = ls; line = line; S = S; lines-are = refl; grown = r; reads-leaf = h; proper = proper; new-is = leaf-node p A (r .ok) (r .sizeA) S proper })
+
+  -- a challenge
+  at-challenge : (p : Parameters) (A : List ℕ) (acc new : Node) → Waiting ls p A acc new → (o : Option (List ℕ)) → recordOf readTernary cWord (sizeC p) line ≡ o
+      → Reached more-lines (onChallenge n p A acc new o .state .stage)
+  unfolding onChallenge
+  at-challenge p A acc new r none h = tt
+  at-challenge p A acc new r (some C) h = either more-lines (refuses ((foldOf p A acc new C) .answer)) _ _ tt (λ e. folded C h)
+    where
+      folded : (C : List ℕ) → recordOf readTernary cWord (sizeC p) line ≡ some C → Grown more-lines p A ((foldOf p A acc new C) .outputs)
+      folded C h =
+          let g = r .grown in
+          let t = g .tree in
+          record {
+            tree = fold t (leaf (r .S)) C;
+            spells = subst (λ (m : List (List ℕ)). Spells m p A (fold t (leaf (r .S)) C))
+                (sym (ap (λ (m : List (List ℕ)). m ++ (line ∷ [])) (r .lines-are) ∙ append-assoc (r .before) (r .line ∷ []) (line ∷ [])))
+                (more (r .before) p A t (r .line) line (r .S) C (g .spells) (r .reads-leaf) h);
+            ok = g .ok;
+            sizeA = g .sizeA;
+            proper = fold-proper p t (r .S) C line h (g .proper) (r .proper);
+            node-is = ap (λ (o : Outcome Node). o .outputs) (fold-node ls n line p A acc new r C h);
+          }
+
+  -- a line by what is due
+  at-due : (s : Stage) → Reached ls s → Reached more-lines (takeDue n s line .state .stage)
+  unfolding takeDue
+  at-due param r = at-param r _ refl
+  at-due (matrix p) r = at-matrix p r _ refl
+  at-due (first p A) r = at-first p A r _ refl
+  at-due (Chain.leaf p A acc) r = at-next p A acc r _ refl
+  at-due (challenge p A acc new) r = at-challenge p A acc new r _ refl
+  at-due stopped r = tt
+
+  at-bad : (s : Stage) → Reached more-lines (badLine n s .state .stage)
+  unfolding badLine
+  at-bad param = tt
+  at-bad (matrix p) = tt
+  at-bad (first p A) = tt
+  at-bad (Chain.leaf p A acc) = tt
+  at-bad (challenge p A acc new) = tt
+  at-bad stopped = tt
+
+at-line : (ls : List (List ℕ)) (s : State) (line : List ℕ) → Reached ls (s .stage) → Reached (ls ++ (line ∷ [])) (takeLine s line .state .stage)
+unfolding takeLine
+at-line ls s line r = by (leb (length line) longestLine)
+  where
+    by : (c : Bool) → Reached (ls ++ (line ∷ [])) ((cond c (takeDue (s .counts) (s .stage) line) (badLine (s .counts) (s .stage))) .state .stage)
+    by true = at-due ls (s .counts) line (s .stage) r
+    by false = at-bad ls (s .counts) line (s .stage)
+
+from-there : (before : List (List ℕ)) (s : State) (ls : List (List ℕ)) → Reached before (s .stage) → Reached (before ++ ls) (stateAfter s ls .stage)
+unfolding stateAfter
+from-there before s [] r = subst (λ (m : List (List ℕ)). Reached m (s .stage)) (sym (append-nil before)) r
+from-there before s (line ∷ rest) r =
+    subst (λ (m : List (List ℕ)). Reached m (stateAfter (takeLine s line .state) rest .stage)) (append-assoc before (line ∷ []) rest)
+    (from-there (before ++ (line ∷ [])) (takeLine s line .state) rest (at-line before s line r))
+
+reached : (ls : List (List ℕ)) → Reached ls (stateAfter start ls .stage)
+reached ls = from-there [] start ls refl
+
+-- ---- the theorems
+
+-- after every fold the accumulated instance and witness are those of the left-leaning tree of the leaves and challenges read so far
+pub run-is-tree : (ls : List (List ℕ)) (p : Parameters) (A : List ℕ) (node : Node) → stateAfter start ls .stage ≡ Chain.leaf p A node → Grown ls p A node
+run-is-tree ls p A node e = subst (Reached ls) e (reached ls)
+
+-- so is it while a leaf waits for its challenge
+pub run-waits : (ls : List (List ℕ)) (p : Parameters) (A : List ℕ) (node new : Node) → stateAfter start ls .stage ≡ challenge p A node new → Waiting ls p A node new
+run-waits ls p A node new e = subst (Reached ls) e (reached ls)
+
+-- every challenge that is read is folded, and its line says yes with the instance of the larger tree
+pub fold-says-yes : (ls : List (List ℕ)) (line : List ℕ) (p : Parameters) (A : List ℕ) (node new : Node) (C : List ℕ) (e : stateAfter start ls .stage ≡ challenge p A node new)
+    → length line ≤ longestLine → recordOf readTernary cWord (sizeC p) line ≡ some C
+    → let w = run-waits ls p A node new e in
+    takeLine (stateAfter start ls) line .output ≡ foldLine (stateAfter start ls .counts .folds + 1) «yes» ((treeNode p A (fold (w .grown .tree) (leaf (w .S)) C)) .instance)
+unfolding takeLine takeDue onChallenge refuses
+fold-says-yes ls line p A node new C e h k =
+    let f = fold-node ls (stateAfter start ls .counts) line p A node new (run-waits ls p A node new e) C k in
+    rw (e, true-is (leb (length line) longestLine) (le→leb (length line) longestLine h), k, f) refl
+
+-- where the input may end, the last line is the number of folds and member
+pub end-says-member : (ls : List (List ℕ)) (p : Parameters) (A : List ℕ) (node : Node) → stateAfter start ls .stage ≡ Chain.leaf p A node
+    → atEnd (stateAfter start ls) [] ≡ endLine (stateAfter start ls .counts .folds) member
+unfolding atEnd endDue
+end-says-member ls p A node e =
+    let g = run-is-tree ls p A node e in
+    rw (e, g .node-is) (ap (endLine (stateAfter start ls .counts .folds)) (member-is p A (g .ok) (g .sizeA) (g .tree) (g .proper)))

@@ -1,0 +1,131 @@
+-- What is kept after an answer: how a leaf and a fold are told from their calls, and what they tell a caller.
+use mathlib.Core.Path.{_≡_, refl, sym, _∙_, ap}
+use mathlib.Core.Bool.{Bool, true, false}
+use mathlib.Core.List.{List}
+use Prim.Native.Nat.{ℕ}
+use lib.IntN.{ℤ}
+use Rattle.settings.specs.Settings.{Parameters}
+use Rattle.lova.specs.Answers.{Meaning, Outcome, ends}
+use Rattle.lova.specs.Stored.{Instance, Message, Prepared}
+use Rattle.lova.specs.Commit.{commit}
+use Rattle.lova.specs.Message.{message}
+use Rattle.lova.specs.Verdict.{verdict}
+use Rattle.lova.specs.Witness.{witness}
+use Rattle.chain.specs.Nodes.{Node, nodeOf, blankInstance, blankPrepared, blankWitness, refuses, unlessRefusing, leafOf, foldAnswer, callsOf, foldOf}
+
+-- nodes and messages with equal parts
+pub node-same : (T T′ : List ℕ) (D D′ S S′ : List ℤ) → T ≡ T′ → D ≡ D′ → S ≡ S′ → nodeOf T D S ≡ nodeOf T′ D′ S′
+node-same T T′ D D′ S S′ t d s = rw (t, d, s) refl
+
+pub message-same : («V» V′ : List ℤ) (T~ T′ : List ℕ) (D~ D′ : List ℤ) → «V» ≡ V′ → T~ ≡ T′ → D~ ≡ D′ → _≡_ {A = Message} (record { «V» = «V»; T~ = T~; D~ = D~ }) (record { «V» = V′; T~ = T′; D~ = D′ })
+message-same «V» V′ T~ T′ D~ D′ v t d = rw (v, t, d) refl
+
+-- an answer that does not refuse keeps what was made, a refusal what was there
+module _ (a : Meaning) (before after : Node) where
+  pub kept-after : refuses a ≡ false → unlessRefusing a before after ≡ ends a after
+  unfolding unlessRefusing
+  kept-after e = rw e refl
+
+  pub kept-before : refuses a ≡ true → unlessRefusing a before after ≡ ends a before
+  unfolding unlessRefusing
+  kept-before e = rw e refl
+
+  kept-answer : (unlessRefusing a before after) .answer ≡ a
+  kept-answer = go (refuses a) refl
+    where
+      go : (u : Bool) → refuses a ≡ u → (unlessRefusing a before after) .answer ≡ a
+      go true e = ap (λ (o : Outcome Node). o .answer) (kept-before e)
+      go false e = ap (λ (o : Outcome Node). o .answer) (kept-after e)
+
+  -- where that is how a call ended
+  module _ (v : Meaning) (z : Node) (e : ends v z ≡ unlessRefusing a before after) where
+    answer-told : a ≡ v
+    answer-told = sym (ap (λ (o : Outcome Node). o .answer) e ∙ kept-answer)
+
+    after-told : refuses v ≡ false → z ≡ after
+    after-told f = ap (λ (o : Outcome Node). o .outputs) (e ∙ kept-after (ap refuses answer-told ∙ f))
+
+    before-told : refuses v ≡ true → z ≡ before
+    before-told f = ap (λ (o : Outcome Node). o .outputs) (e ∙ kept-before (ap refuses answer-told ∙ f))
+
+-- ---- a leaf
+
+module _ (p : Parameters) (A : List ℕ) (S : List ℤ) (before : Node) where
+  leaf-by : Outcome Instance → Outcome Node
+  leaf-by o = unlessRefusing (o .answer) before (record { instance = o .outputs; witness = S })
+
+  -- from commit's end
+  module _ (v : Meaning) (I : Instance) (e : ends v I ≡ commit p A S (blankInstance p)) where
+    pub leaf-ends : refuses v ≡ false → ends v (record { instance = I; witness = S }) ≡ leafOf p A S before
+    unfolding leafOf leaf-by
+    leaf-ends f = sym (kept-after v before _ f) ∙ ap leaf-by e
+
+    pub leaf-refuses : refuses v ≡ true → ends v before ≡ leafOf p A S before
+    unfolding leafOf leaf-by
+    leaf-refuses f = sym (kept-before v before (record { instance = I; witness = S }) f) ∙ ap leaf-by e
+
+  -- from the leaf's end: commit's answer; where it does not refuse, the node is what commit left, and S; else it is as it was
+  module _ (v : Meaning) (z : Node) (e : ends v z ≡ leafOf p A S before) where
+    told-leaf : ends v z ≡ leaf-by (commit p A S (blankInstance p))
+    unfolding leafOf leaf-by
+    told-leaf = e
+
+    pub leaf-answer : (commit p A S (blankInstance p)) .answer ≡ v
+    unfolding leaf-by
+    leaf-answer = answer-told _ before _ v z told-leaf
+
+    pub leaf-made : refuses v ≡ false → z ≡ record { instance = (commit p A S (blankInstance p)) .outputs; witness = S }
+    unfolding leaf-by
+    leaf-made = after-told _ before _ v z told-leaf
+
+    pub leaf-kept : refuses v ≡ true → z ≡ before
+    unfolding leaf-by
+    leaf-kept = before-told _ before _ v z told-leaf
+
+-- ---- a fold
+
+-- the outputs that the calls of a fold find
+abbrev pub blankNode : Parameters → Node
+blankNode p = record { instance = blankInstance p; witness = blankWitness p }
+
+module _ (p : Parameters) (A : List ℕ) (left right : Node) (C : List ℕ) where
+  -- from the ends of message, folded witness and verdict
+  pub calls-end : (before : Node) (said : Outcome Prepared) (folded : Outcome (List ℤ)) (judged : Outcome Instance) (v : Meaning)
+      → said ≡ message p A (left .witness) (right .witness) (blankPrepared p)
+      → folded ≡ witness p (said .outputs .S~) C (before .witness)
+      → judged ≡ verdict p (left .instance) (right .instance) (said .outputs .message) C (before .instance)
+      → v ≡ foldAnswer (said .answer) (folded .answer) (judged .answer)
+      → ends v (record { instance = judged .outputs; witness = folded .outputs }) ≡ callsOf p A left right C before
+  unfolding callsOf
+  calls-end before said folded judged v s f j a = rw (a, j, f, s) refl
+
+  fold-by : Outcome Node → Outcome Node
+  fold-by o = unlessRefusing (o .answer) left (o .outputs)
+
+  -- from the calls' end
+  module _ (v : Meaning) (z : Node) (e : ends v z ≡ callsOf p A left right C (blankNode p)) where
+    pub fold-ends : refuses v ≡ false → ends v z ≡ foldOf p A left right C
+    unfolding foldOf fold-by
+    fold-ends f = sym (kept-after v left z f) ∙ ap fold-by e
+
+    pub fold-refuses : refuses v ≡ true → ends v left ≡ foldOf p A left right C
+    unfolding foldOf fold-by
+    fold-refuses f = sym (kept-before v left z f) ∙ ap fold-by e
+
+  -- from the fold's end: the calls' answer; where it does not refuse, the node is what the calls left; else it is the left one
+  module _ (v : Meaning) (z : Node) (e : ends v z ≡ foldOf p A left right C) where
+    told-fold : ends v z ≡ fold-by (callsOf p A left right C (blankNode p))
+    unfolding foldOf fold-by
+    told-fold = e
+
+    pub fold-said : (callsOf p A left right C (blankNode p)) .answer ≡ v
+    unfolding fold-by
+    fold-said = answer-told _ left _ v z told-fold
+
+    pub fold-made : refuses v ≡ false → z ≡ (callsOf p A left right C (blankNode p)) .outputs
+    unfolding fold-by
+    fold-made = after-told _ left _ v z told-fold
+
+    pub fold-kept : refuses v ≡ true → z ≡ left
+    unfolding fold-by
+    fold-kept = before-told _ left _ v z told-fold

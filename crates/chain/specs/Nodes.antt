@@ -1,0 +1,73 @@
+-- The nodes of a chain: a leaf by commit, a fold by message, folded witness and verdict.
+use mathlib.Core.Bool.{Bool, true, false, cond}
+use mathlib.Core.List.{List}
+use Prim.Native.Nat.{ℕ}
+use lib.IntN.{ℤ, pos}
+use lib.ListN.{replicate}
+use Rattle.settings.specs.Settings.{Parameters}
+use Rattle.lova.specs.Answers.{Meaning, done, «yes», norm, commitment, long, products, member, refused, Outcome, ends}
+use Rattle.lova.specs.Stored.{Instance, Prepared, matrixT, matrixS, matrixD, matrixV, matrixS~, matrixT~, matrixD~}
+use Rattle.lova.specs.Commit.{commit}
+use Rattle.lova.specs.Message.{message}
+use Rattle.lova.specs.Verdict.{verdict}
+use Rattle.lova.specs.Witness.{witness}
+
+-- a node: its instance and its witness
+pub record Node : Type 0 where
+  pub instance : Instance
+  pub witness : List ℤ
+
+abbrev pub nodeOf : List ℕ → List ℤ → List ℤ → Node
+nodeOf T D S = record { instance = record { T = T; D = D }; witness = S }
+
+-- outputs of the stated lengths that hold zeros, as every call of a chain finds them
+abbrev pub blankInstance : Parameters → Instance
+blankInstance p = record { T = replicate (matrixT p .size) 0; D = replicate (matrixD p .size) (pos 0) }
+
+abbrev pub blankPrepared : Parameters → Prepared
+blankPrepared p = record {
+  message = record { «V» = replicate (matrixV p .size) (pos 0); T~ = replicate (matrixT~ p .size) 0; D~ = replicate (matrixD~ p .size) (pos 0) };
+  S~ = replicate (matrixS~ p .size) (pos 0);
+}
+
+abbrev pub blankWitness : Parameters → List ℤ
+blankWitness p = replicate (matrixS p .size) (pos 0)
+
+-- whether an answer is a refusal
+unfoldable pub refuses : Meaning → Bool
+refuses done = false
+refuses «yes» = false
+refuses norm = false
+refuses commitment = false
+refuses long = false
+refuses products = false
+refuses member = false
+refuses (refused r) = true
+
+-- what is kept after an answer: a refusal changes nothing
+unfoldable pub unlessRefusing : Meaning → Node → Node → Outcome Node
+unlessRefusing answer before after = cond (refuses answer) (ends answer before) (ends answer after)
+
+-- a leaf with the witness S, in place of a node
+unfoldable pub leafOf : Parameters → List ℕ → List ℤ → Node → Outcome Node
+leafOf p A S before =
+    let made = commit p A S (blankInstance p) in
+    unlessRefusing (made .answer) before (record { instance = made .outputs; witness = S })
+
+-- the answer of a fold: the first of message's, folded witness's and the verdict's that refuses, else the verdict's
+unfoldable pub foldAnswer : Meaning → Meaning → Meaning → Meaning
+foldAnswer said folded judged = cond (refuses said) said (cond (refuses folded) folded judged)
+
+-- the calls of a fold, with what the outputs of folded witness and verdict held before
+unfoldable pub callsOf : Parameters → List ℕ → Node → Node → List ℕ → Node → Outcome Node
+callsOf p A left right C before =
+    let said = message p A (left .witness) (right .witness) (blankPrepared p) in
+    let folded = witness p (said .outputs .S~) C (before .witness) in
+    let judged = verdict p (left .instance) (right .instance) (said .outputs .message) C (before .instance) in
+    ends (foldAnswer (said .answer) (folded .answer) (judged .answer)) (record { instance = judged .outputs; witness = folded .outputs })
+
+-- the fold of two nodes with the challenge C, in place of the left one
+unfoldable pub foldOf : Parameters → List ℕ → Node → Node → List ℕ → Outcome Node
+foldOf p A left right C =
+    let made = callsOf p A left right C (record { instance = blankInstance p; witness = blankWitness p }) in
+    unlessRefusing (made .answer) left (made .outputs)

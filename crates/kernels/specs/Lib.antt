@@ -1,4 +1,0 @@
-pub mod Small
-pub mod Dots
-pub mod Columns
-pub mod Rows

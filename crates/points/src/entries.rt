@@ -1,0 +1,34 @@
+// The points about single entries: digits, and witnesses of Setting 1.
+ghost use Prim.Native.Nat.{_≤_};
+use super::example;
+use shown::calls;
+
+fn five_digits(x: i64, b: u64)
+    requires { ⌜ 2 ≤ b ⌝ }
+{
+    let mut digits = [0i64; 5];
+    calls::digits_of(x, b, &mut digits);
+}
+
+fn three_digits(x: i64, b: u64)
+    requires { ⌜ 2 ≤ b ⌝ }
+{
+    let mut digits = [0i64; 3];
+    calls::digits_of(x, b, &mut digits);
+}
+
+pub fn digit_points() {
+    five_digits(7, 2);
+    five_digits(-5, 2);
+    three_digits(5, 3);
+    three_digits(6, 4);
+    three_digits(7, 4);
+}
+
+// The last T is 0: the product of A and S is 2^64.
+pub fn witness_points() {
+    example::committed(3, 10);
+    example::committed(3, 11);
+    example::committed(3, -9223372036854775808);
+    example::committed(9223372036854775808, 2);
+}

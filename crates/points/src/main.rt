@@ -1,0 +1,18 @@
+// Runs document 01's points on the library, and writes what it answers; the check compares that with `stdout`.
+mod entries;
+mod example;
+mod limits;
+
+use shown::print;
+
+fn main() {
+    print::text(b"Points to hold against\n");
+    limits::points();
+    entries::digit_points();
+    entries::witness_points();
+    // The points on the fold stand at its end.
+    print::text(b"The fold of 7 and -5\n");
+    example::fold();
+    print::text(b"The house list\n");
+    limits::house_list();
+}

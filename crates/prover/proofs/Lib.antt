@@ -1,3 +1,0 @@
-pub mod DigitRows
-pub mod Folding
-pub mod Preparing

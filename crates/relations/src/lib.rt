@@ -1,0 +1,106 @@
+// The relation test: whether T, D and S are in the paper's relation (1) with A.
+ghost use mathlib.Core.Path.{_≡_};
+ghost use mathlib.Core.Bool.{_&&_};
+ghost use Prim.Native.Nat.{ℕ, _*_, _^_, _<_, _≤_};
+ghost use lib.ListN.{length};
+ghost use Rattle.matrices.specs.Matrices.{product, gram, squaredLength};
+ghost use Rattle.matrices.specs.Tables.{unsigned, signed};
+ghost use Rattle.settings.specs.Rules.{firstOf};
+ghost use Rattle.settings.specs.Settings.{parametersOf};
+ghost use Rattle.lova.specs.Answers.{membershipOf};
+ghost use Rattle.lova.specs.Stored.{matrixA, matrixS};
+ghost use Rattle.lova.specs.Tests.{equal, equalWords, fits, fitsInstance};
+ghost use Rattle.lova.specs.Calls.{Rebuilt};
+ghost use Rattle.lova.specs.Relation.{relationRules, relation};
+use lova::Membership;
+use settings::Setting;
+
+// Whether the slices have the lengths of their matrices.
+fn relation_lengths(setting: Setting, a: &[u64], t: &[u64], d: &[i64], s: &[i64]) -> bool
+    requires { ⌜ Rebuilt setting ⌝ }
+    ensures { λ r. ⌜ r ≡ (fits (matrixA (parametersOf setting)) (now (a .entry)) && fitsInstance (parametersOf setting) (record { T = now (t .entry); D = now (d .entry) }) && fits (matrixS (parametersOf setting)) (now (s .entry))) ⌝ }
+{
+    a.len() == setting.n * setting.m
+        && scans::instance_fits(setting, t, d)
+        && s.len() == setting.m * setting.t
+}
+
+// 7 where they have not, else 0.
+fn relation_refusal(setting: Setting, a: &[u64], t: &[u64], d: &[i64], s: &[i64]) -> u8
+    requires { ⌜ Rebuilt setting ⌝ }
+    ensures { λ r. ⌜ r ≡ firstOf (relationRules (parametersOf setting) (now (a .entry)) (record { T = now (t .entry); D = now (d .entry) }) (now (s .entry))) ⌝ }
+{
+    if !relation_lengths(setting, a, t, d, s) {
+        return 7;
+    }
+    0
+}
+
+// Whether s-transposed s is d, for an s with short columns: compared by rows, up to the first unequal entry.
+fn products_hold(d: &[i64], s: &[i64], m: usize, cols: usize) -> bool
+    requires { ⌜ (length (now d) ≡ cols * cols) × (length (now s) ≡ m * cols) ⌝ }
+    requires { ⌜ ((j : ℕ) → j < cols → squaredLength m (signed cols (now s)) j ≤ 2 ^ 62) ⌝ }
+    ensures { λ r. ⌜ r ≡ equal cols cols (gram m (signed cols (now (s .entry)))) (signed cols (now (d .entry))) ⌝ }
+{
+    let mut equal = true;
+    let mut i: usize = 0;
+    'rows: while i < cols {
+        let mut j: usize = 0;
+        while j < cols {
+            if matrices::column_by_column(s, s, m, cols, i, j) != d[i * cols + j] {
+                equal = false;
+                break 'rows;
+            }
+            j += 1;
+        }
+        i += 1;
+    }
+    equal
+}
+
+// Whether a s is t modulo 2^64: compared by rows, up to the first unequal entry.
+fn commitment_holds(a: &[u64], t: &[u64], s: &[i64], rows: usize, m: usize, cols: usize) -> bool
+    requires { ⌜ (length (now a) ≡ rows * m) × (length (now t) ≡ rows * cols) × (length (now s) ≡ m * cols) ⌝ }
+    ensures { λ r. ⌜ r ≡ equalWords rows cols (product m (unsigned m (now (a .entry))) (signed cols (now (s .entry)))) (unsigned cols (now (t .entry))) ⌝ }
+{
+    let mut congruent = true;
+    let mut i: usize = 0;
+    'rows: while i < rows {
+        let mut j: usize = 0;
+        while j < cols {
+            if matrices::row_by_column(a, s, m, cols, i, j) != t[i * cols + j] {
+                congruent = false;
+                break 'rows;
+            }
+            j += 1;
+        }
+        i += 1;
+    }
+    congruent
+}
+
+// Whether t, d and s are in the paper's relation (1) with a.
+pub fn test_relation(setting: Setting, a: &[u64], t: &[u64], d: &[i64], s: &[i64]) -> Membership
+    ensures { λ r. ⌜ membershipOf r ≡ (relation (parametersOf setting) (now (a .entry)) (record { T = now (t .entry); D = now (d .entry) }) (now (s .entry))) .answer ⌝ }
+{
+    let fresh = Setting::new(setting.n, setting.m, setting.t, setting.b, setting.bound);
+    let number = fresh.refusal;
+    if number != 0 {
+        return Membership::Refused(number);
+    }
+    let accepted = fresh.setting;
+    let own = relation_refusal(accepted, a, t, d, s);
+    if own != 0 {
+        return Membership::Refused(own);
+    }
+    if !scans::columns_within(s, accepted.m, accepted.t, accepted.bound) {
+        return Membership::Long;
+    }
+    if !products_hold(d, s, accepted.m, accepted.t) {
+        return Membership::Products;
+    }
+    if !commitment_holds(a, t, s, accepted.n, accepted.m, accepted.t) {
+        return Membership::Commitment;
+    }
+    Membership::Member
+}

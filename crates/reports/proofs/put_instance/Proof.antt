@@ -1,0 +1,37 @@
+-- `reports::put_instance` meets its contract: T, then D, then the line feed.
+use borrow.Author.Needs.{needs}
+use mathlib.Core.Path.{_∙_}
+use native.Mathlib.Omega.{arith}
+use lib.ListN.{length-set}
+use Rattle.reports.proofs.Puts.{instance-put}
+use Rattle.reports.proofs.put_instance.Statement.{statement}
+use Rattle.reports.proofs.put_instance.Tie as tie
+
+put-u64s-requires : tie.Need-put-u64s-requires
+put-u64s-requires c κs = search needs
+
+put-i64s-requires : tie.Need-put-i64s-requires
+put-i64s-requires c κs = search needs
+
+slice-write-out : tie.Need-slice-write-out
+slice-write-out c = search needs
+
+add-result : tie.Need-add-result
+add-result c = search needs
+
+same-length : tie.Need-same-length
+same-length c = length-set (c .before .before .put-i64s .last .0) (c .before .before .put-i64s .result) 10 ∙ c .before .before .put-i64s .kept .0 ∙ c .before .before .before .before .before .before .put-u64s .kept .0
+
+returns : tie.Need-returns
+returns c =
+    let s = c .before .before .before .before .before .before .before .before .before .before .args in
+    let p = c .before .before .before .before .before .before .put-u64s in
+    let q = c .before .before .put-i64s in
+    let r = instance-put (s .t .now) (s .d .now) (s .out .now) (p .last .0) (q .last .0) (s .at) (p .result) (q .result)
+    (omega (arith, c .before .before .before .before .before .before .before .before .before .before .pre, p .ensures .0, p .ensures .2, q .ensures .0, q .ensures .2)) (p .ensures .0) (p .ensures .1) (q .ensures .0) (q .ensures .1) in
+    (r .0, r .1, omega (arith, p .ensures .2, q .ensures .2))
+
+pub put-instance-spec : {M : Type 1} → statement M
+put-instance-spec =
+    tie.close
+    (tie.spec put-u64s-requires put-i64s-requires slice-write-out add-result same-length returns)

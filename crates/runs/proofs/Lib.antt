@@ -1,0 +1,5 @@
+pub mod Parts
+pub mod Leaves
+pub mod Challenges
+pub mod Params
+pub mod Steps

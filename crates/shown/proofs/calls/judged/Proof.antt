@@ -1,0 +1,24 @@
+-- `shown::calls::judged` meets its contract, which is of the verdict's outputs.
+use mathlib.Core.Path.{ap}
+use borrow.Author.Needs.{needs}
+use Rattle.shown.proofs.calls.judged.Statement.{statement}
+use Rattle.shown.proofs.calls.judged.Tie as tie
+
+verify-requires : tie.Need-verify-requires
+verify-requires c κs = search needs
+
+judged-requires : tie.Need-judged-requires
+judged-requires c κs = search needs
+
+same-length : tie.Need-same-length
+same-length c = search needs
+
+same-length-2 : tie.Need-same-length-2
+same-length-2 c = search needs
+
+returns : tie.Need-returns
+returns c = ap (λ o. o .outputs) (c .before .before .before .before .before .before .verify .ensures)
+
+pub judged-spec : {M : Type 1} → statement M
+judged-spec =
+    tie.close (tie.spec verify-requires judged-requires same-length same-length-2 returns)

@@ -1,0 +1,41 @@
+-- Lists of numbers of at most M in size.
+use mathlib.Core.Path.{_≡_, refl, sym, subst}
+use mathlib.Core.Logic.{⊎-elim}
+use mathlib.Core.List.{List}
+use Prim.Native.Nat.{ℕ, zero, suc, _+_, _<_, _≤_}
+use native.Mathlib.Omega.{arith}
+use native.Mathlib.Decide.{ℕ-discrete}
+use lib.ListN.{length, getD, set, take, drop, replicate, length-take, List·getD-eq-default}
+use lib.Seq.{getD-set-same, getD-set-other, getD-take, getD-drop}
+use lib.IntN.{ℤ, pos, natAbs}
+use Rattle.integers.proofs.Tests.{le-or-lt}
+use Rattle.small_rows.specs.Small.{Within}
+
+module _ (M : ℕ) where
+  -- past a list's end there is nothing to show
+  pub within-list : (xs : List ℤ) → ((i : ℕ) → i < length xs → natAbs (getD xs i (pos 0)) ≤ M) → Within M xs
+  within-list xs h i = ⊎-elim
+      (λ (l : length xs ≤ i). subst (λ (z : ℤ). natAbs z ≤ M) (sym (List·getD-eq-default xs (pos 0) l)) (omega arith))
+      (λ (l : i < length xs). h i l)
+      (le-or-lt (length xs) i)
+
+  pub within-set : (xs : List ℤ) (i : ℕ) (v : ℤ) → i < length xs → natAbs v ≤ M → Within M xs → Within M (set xs i v)
+  within-set xs i v room hv small k = go (ℕ-discrete k i)
+    where
+      go : Dec (k ≡ i) → natAbs (getD (set xs i v) k (pos 0)) ≤ M
+      go (yes e) = rw (e, getD-set-same xs i v (pos 0) room) hv
+      go (no f) = rw (getD-set-other xs i k v (pos 0) f) (small k)
+
+  -- a part of a list
+  pub within-part : (a k : ℕ) (xs : List ℤ) → Within M xs → Within M (take k (drop a xs))
+  within-part a k xs small = within-list (take k (drop a xs)) (λ i l.
+      let h : i < k = omega (arith, length-take k (drop a xs)) in
+      rw (getD-take k (drop a xs) i (pos 0) h, getD-drop a xs i (pos 0)) (small (a + i)))
+
+pub zeros : (n x : ℕ) → getD (replicate n (pos 0)) x (pos 0) ≡ pos 0
+zeros zero x = refl
+zeros (suc n) zero = refl
+zeros (suc n) (suc x) = zeros n x
+
+pub within-zeros : (M n : ℕ) → Within M (replicate n (pos 0))
+within-zeros M n i = rw (zeros n i) (omega arith)

@@ -1,0 +1,223 @@
+-- `verdicts::verify` meets its contract: refused by the setting's rules or by its own, or judged by the first
+-- equation, then the second; T' and D' are written only where both hold.
+use borrow.Author.Needs.{needs}
+use borrow.Author.Tests.{not-true, not-false}
+use mathlib.Core.Path.{_≡_, sym, _∙_}
+use mathlib.Core.Bool.{true}
+use mathlib.Core.List.{List}
+use Rattle.settings.specs.Rules.{Rule}
+use Rattle.settings.specs.Settings.{Parameters, parametersOf}
+use Rattle.lova.specs.Answers.{verdictOf, Outcome}
+use Rattle.lova.specs.Stored.{Instance, Message}
+use Rattle.lova.specs.Calls.{ProperVerdict, Rebuilt}
+use Rattle.lova.specs.Verdict.{verdictRules, firstHolds, secondHolds, foldedInstance, verdictBy, verdict}
+use Rattle.lova.proofs.Refusals.{verdict-proper}
+use Rattle.lova.proofs.Rebuilding.{rebuilt}
+use Rattle.lova.proofs.WaysOut.{out-by-setting, out-by-own, none-applied, out-at-end}
+use Rattle.verdicts.proofs.Verifying.{commitment-lengths, gram-asks, norm-answer, commitment-answer, yes-answer}
+use Rattle.verdicts.proofs.verify.Statement.{statement}
+use Rattle.verdicts.proofs.verify.Tie as tie
+
+-- what is lent, the rules, and what is answered where none of them applies
+module _ (s : tie.Start) where
+  abbrev first : Instance
+  first = record { T = s .args .t1 .now; D = s .args .d1 .now }
+
+  abbrev second : Instance
+  second = record { T = s .args .t2 .now; D = s .args .d2 .now }
+
+  abbrev message : Message
+  message = record { «V» = s .args .v .now; T~ = s .args .tt .now; D~ = s .args .dd .now }
+
+  abbrev out : Instance
+  out = record { T = s .args .t .now; D = s .args .d .now }
+
+  abbrev rules : Parameters → List Rule
+  rules p = verdictRules p first second message (s .args .c .now) out
+
+  abbrev answer : Parameters → Outcome Instance
+  answer p = verdictBy (firstHolds p first second message) (secondHolds p first second message) out (foldedInstance p message (s .args .c .now))
+
+-- the entry, and the setting that was built anew
+abbrev start : tie.After-new → tie.Start
+start c = c .before .before .before .before .before .before
+
+abbrev anew : tie.After-new → Parameters
+anew c = parametersOf (c .new .result .setting)
+
+abbrev new-at : tie.Else2 → tie.After-new
+new-at c = c .before .before .before .before .before .before
+
+new-requires : tie.Need-new-requires
+new-requires c κs = search needs
+
+returns : tie.Need-returns
+unfolding verdict verdictOf
+returns c =
+    let n = c .before in
+    let s = start n in
+    out-by-setting (rules s) (out s) (answer s) (parametersOf (s .args .setting)) (n .new .result) (n .new .ensures) (c .if1 .taken)
+
+-- the new setting is accepted
+again : (c : tie.Else1) → Rebuilt (c .before .new .result .setting)
+again c = rebuilt (parametersOf (start (c .before) .args .setting)) (c .before .new .result) (c .before .new .ensures) (c .if1 .left)
+
+abbrev else-1 : tie.Else2 → tie.Else1
+else-1 c = c .before .before .before .before .before
+
+verdict-refusal-requires : tie.Need-verdict-refusal-requires
+verdict-refusal-requires c κs = again (c .before .before .before)
+
+same-length : tie.Need-same-length
+same-length c = search needs
+
+same-length-2 : tie.Need-same-length-2
+same-length-2 c = search needs
+
+returns-2 : tie.Need-returns-2
+unfolding verdict verdictOf
+returns-2 c =
+    let w = c .before in
+    let e = w .before .before .before .before in
+    let n = e .before in
+    let s = start n in
+    out-by-own (rules s) (out s) (answer s) (parametersOf (s .args .setting)) (n .new .result) (n .new .ensures) (e .if1 .left) (w .verdict-refusal .result) (w .verdict-refusal .ensures) (c .if2 .taken)
+
+-- past the refusals the call is proper, and the answer is that of the two tests
+proper : (c : tie.Else2) →
+    let n = new-at c in
+    let s = start n in
+    ProperVerdict (anew n) (first s) (second s) (message s) (s .args .c .now) (out s)
+proper c =
+    let n = new-at c in
+    let s = start n in
+    verdict-proper (anew n) (first s) (second s) (message s) (s .args .c .now) (out s) .0
+    (none-applied (rules s) (out s) (answer s) (parametersOf (s .args .setting)) (n .new .result) (n .new .ensures) (else-1 c .if1 .left) (c .before .verdict-refusal .result) (c .before .verdict-refusal .ensures) (c .if2 .left))
+
+answers : (c : tie.Else2) →
+    let n = new-at c in
+    let s = start n in
+    answer s (anew n) ≡ verdict (parametersOf (s .args .setting)) (first s) (second s) (message s) (s .args .c .now) (out s)
+unfolding verdict
+answers c =
+    let n = new-at c in
+    let s = start n in
+    out-at-end (rules s) (out s) (answer s) (parametersOf (s .args .setting)) (n .new .result) (n .new .ensures) (else-1 c .if1 .left) (c .before .verdict-refusal .result) (c .before .verdict-refusal .ensures) (c .if2 .left)
+
+norm-holds-requires : tie.Need-norm-holds-requires
+norm-holds-requires c κs =
+    let l = proper c .lengths in
+    ((again (else-1 c), l .0 .1, l .2 .0, l .1 .1), (l .2 .2, proper c .entries))
+
+-- what each test's outcome says
+first-is : (c : tie.After-norm-holds) →
+    let n = new-at (c .before) in
+    let s = start n in
+    firstHolds (anew n) (first s) (second s) (message s) ≡ c .norm-holds .result
+unfolding firstHolds
+first-is c = sym (c .norm-holds .ensures)
+
+second-is : (c : tie.After-commitment-holds) →
+    let n = new-at (c .before .before .before) in
+    let s = start n in
+    secondHolds (anew n) (first s) (second s) (message s) ≡ c .commitment-holds .result
+unfolding secondHolds
+second-is c = sym (c .commitment-holds .ensures)
+
+first-passed : (c : tie.Else3) →
+    let n = new-at (c .before .before) in
+    let s = start n in
+    firstHolds (anew n) (first s) (second s) (message s) ≡ true
+first-passed c = first-is (c .before) ∙ not-false _ (c .if3 .left)
+
+same-length-3 : tie.Need-same-length-3
+same-length-3 c = search needs
+
+same-length-4 : tie.Need-same-length-4
+same-length-4 c = search needs
+
+returns-3 : tie.Need-returns-3
+unfolding verdictOf
+returns-3 c =
+    let e = c .before .before in
+    let n = new-at e in
+    let s = start n in
+    norm-answer (n .new .result .setting) (again (else-1 e)) (first s) (second s) (message s) (s .args .c .now) (out s) (proper e) (first-is (c .before) ∙ not-true _ (c .if3 .taken))
+    ∙ answers e
+
+commitment-holds-requires : tie.Need-commitment-holds-requires
+commitment-holds-requires c κs =
+    let e = c .before .before in
+    let l = proper e .lengths in
+    (again (else-1 e), l .0 .0, l .1 .0, l .2 .1)
+
+same-length-5 : tie.Need-same-length-5
+same-length-5 c = search needs
+
+same-length-6 : tie.Need-same-length-6
+same-length-6 c = search needs
+
+returns-4 : tie.Need-returns-4
+unfolding verdictOf
+returns-4 c =
+    let f = c .before .before in
+    let e = f .before .before in
+    let n = new-at e in
+    let s = start n in
+    commitment-answer (n .new .result .setting) (again (else-1 e)) (first s) (second s) (message s) (s .args .c .now) (out s) (proper e) (first-passed f) (second-is (c .before) ∙ not-true _ (c .if4 .taken))
+    ∙ answers e
+
+fold-commitment-requires : tie.Need-fold-commitment-requires
+fold-commitment-requires c κs =
+    let e = c .before .before .before .before .before in
+    let n = new-at e in
+    let s = start n in
+    commitment-lengths (n .new .result .setting) (again (else-1 e)) (first s) (second s) (message s) (s .args .c .now) (out s) (proper e)
+
+fold-gram-requires : tie.Need-fold-gram-requires
+fold-gram-requires c κs =
+    let e = c .before .before .before .before .before .before .before .before .before in
+    let n = new-at e in
+    let s = start n in
+    gram-asks (n .new .result .setting) (again (else-1 e)) (first s) (second s) (message s) (s .args .c .now) (out s) (proper e)
+
+same-length-7 : tie.Need-same-length-7
+same-length-7 c = search needs
+
+same-length-8 : tie.Need-same-length-8
+same-length-8 c = search needs
+
+returns-5 : tie.Need-returns-5
+unfolding verdictOf
+returns-5 c =
+    let last = c .before .before .before .before .before .before .before in
+    let f = last .before .before in
+    let e = f .before .before in
+    let n = new-at e in
+    let s = start n in
+    yes-answer (n .new .result .setting) (again (else-1 e)) (first s) (second s) (message s) (s .args .c .now) (out s) (proper e) (first-passed f) (second-is (last .before) ∙ not-false _ (last .if4 .left)) _ _ (c .before .before .before .before .before .fold-commitment .ensures) (c .before .fold-gram .ensures)
+    ∙ answers e
+
+pub verify-spec : {M : Type 1} → statement M
+verify-spec =
+    tie.close
+    (tie.spec
+    new-requires
+    returns
+    verdict-refusal-requires
+    same-length
+    same-length-2
+    returns-2
+    norm-holds-requires
+    same-length-3
+    same-length-4
+    returns-3
+    commitment-holds-requires
+    same-length-5
+    same-length-6
+    returns-4
+    fold-commitment-requires
+    fold-gram-requires
+    same-length-7
+    same-length-8
+    returns-5)
