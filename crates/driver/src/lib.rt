@@ -68,6 +68,28 @@ fn has_stopped(feed: Feed) -> bool
     }
 }
 
+// Prints the last line, or says on standard error that the input could not be read.
+fn finish(
+    got: isize,
+    feed: Feed,
+    line: &[u8],
+    a: &[u64],
+    t1: &[u64],
+    d1: &[i64],
+    s1: &[i64],
+    out: &mut [u8],
+)
+    requires { ⌜ Steady feed (now line) × (feed .run .line < 2 ^ 62) × Roomy (now out) ⌝ }
+    requires { ⌜ (length (now a) ≡ 128) × (length (now t1) ≡ 16) × (length (now d1) ≡ 4) × (length (now s1) ≡ 32) ⌝ }
+{
+    if got < 0 {
+        io::write_all(2, b"the input cannot be read\n");
+        return;
+    }
+    let last = feed.end(line, a, t1, d1, s1, out);
+    print(&out[..last]);
+}
+
 // Runs the chain on what a descriptor gives, up to its end or to the first line that is refused.
 pub fn run(fd: i32) {
     let mut line = [0u8; 4096];
@@ -84,14 +106,9 @@ pub fn run(fd: i32) {
     let mut turns: u64 = 0;
     while turns < CHUNKS {
         let got = libc::read(fd, &mut chunk);
-        if got < 0 {
-            io::write_all(2, b"the input cannot be read\n");
-            return;
-        }
         let n = io::count(got, &chunk);
         if n == 0 {
-            let last = feed.end(&line, &a, &t1, &d1, &s1, &mut out);
-            print(&out[..last]);
+            finish(got, feed, &line, &a, &t1, &d1, &s1, &mut out);
             return;
         }
         feed = feed_chunk(

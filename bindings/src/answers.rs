@@ -1,0 +1,183 @@
+//! What the operations answer, and the codes that stand for it.
+
+use std::error::Error;
+use std::fmt;
+
+/// A refusal, with the specification's number.
+///
+/// A refused call has written nothing.
+#[derive(Clone, Copy, Debug, PartialEq, Eq, PartialOrd, Ord, Hash)]
+#[repr(u8)]
+pub enum Refusal {
+    /// n, m or t is out of range.
+    Shape = 1,
+    /// b is out of range.
+    Base = 2,
+    /// B is out of range.
+    Bound = 3,
+    /// N is above 512.
+    Columns = 4,
+    /// Growth: (N h)² m is above B.
+    Growth = 5,
+    /// Width: H ((b^k − 1)/(b − 1))² is above 2^62.
+    Width = 6,
+    /// A slice, outputs included, has not the length of its matrix.
+    Length = 7,
+    /// A column of a witness has a squared length above B.
+    LongColumn = 8,
+    /// A byte of the challenge is above 2.
+    Challenge = 9,
+    /// An entry of D~ is above H in size.
+    DigitProduct = 10,
+    /// An entry of S~ is above h in size.
+    Digit = 11,
+    /// A number outside 1..4 was asked of the house list.
+    Unlisted = 12,
+}
+
+/// All refusals, in the order of their numbers.
+const REFUSALS: [Refusal; 12] = [
+    Refusal::Shape,
+    Refusal::Base,
+    Refusal::Bound,
+    Refusal::Columns,
+    Refusal::Growth,
+    Refusal::Width,
+    Refusal::Length,
+    Refusal::LongColumn,
+    Refusal::Challenge,
+    Refusal::DigitProduct,
+    Refusal::Digit,
+    Refusal::Unlisted,
+];
+
+impl Refusal {
+    /// The specification's number of this refusal.
+    pub fn number(self) -> u8 {
+        self as u8
+    }
+
+    /// When this refusal is given.
+    fn reason(self) -> &'static str {
+        match self {
+            Refusal::Shape => "n, m or t is out of range",
+            Refusal::Base => "b is out of range",
+            Refusal::Bound => "B is out of range",
+            Refusal::Columns => "N is above 512",
+            Refusal::Growth => "(N h)² m is above B",
+            Refusal::Width => "H ((b^k − 1)/(b − 1))² is above 2^62",
+            Refusal::Length => "a slice has not the length of its matrix",
+            Refusal::LongColumn => "a column of a witness has a squared length above B",
+            Refusal::Challenge => "a byte of the challenge is above 2",
+            Refusal::DigitProduct => "an entry of D~ is above H in size",
+            Refusal::Digit => "an entry of S~ is above h in size",
+            Refusal::Unlisted => "the house list has the numbers 1 to 4",
+        }
+    }
+}
+
+impl fmt::Display for Refusal {
+    fn fmt(&self, f: &mut fmt::Formatter<'_>) -> fmt::Result {
+        write!(f, "refused with {}: {}", self.number(), self.reason())
+    }
+}
+
+impl Error for Refusal {}
+
+/// What an operation without words of its own answers: done, or refused.
+pub type Answer = Result<(), Refusal>;
+
+/// The verdict on a fold.
+#[derive(Clone, Copy, Debug, PartialEq, Eq, Hash)]
+#[must_use]
+pub enum Verdict {
+    /// Both equations hold; T' and D' were written.
+    Yes,
+    /// The first equation, of the products, fails.
+    Norm,
+    /// The second equation alone, of the commitments, fails.
+    Commitment,
+}
+
+/// Whether a witness belongs to an instance.
+#[derive(Clone, Copy, Debug, PartialEq, Eq, Hash)]
+#[must_use]
+pub enum Membership {
+    /// It does.
+    Member,
+    /// A column has a squared length above B.
+    Long,
+    /// S-transposed S is not D.
+    Products,
+    /// A S is not T.
+    Commitment,
+}
+
+/// The refusal with this code.
+///
+/// # Panics
+///
+/// Where the library answers a code that it does not have.
+fn refusal(code: u8) -> Refusal {
+    let place = usize::from(code).wrapping_sub(1);
+    *REFUSALS.get(place).unwrap_or_else(|| panic!("the static library answered {code}, which is none of its codes"))
+}
+
+/// The answer with this code.
+pub(crate) fn answer(code: u8) -> Answer {
+    match code {
+        0 => Ok(()),
+        _ => Err(refusal(code)),
+    }
+}
+
+/// The verdict with this code.
+pub(crate) fn verdict(code: u8) -> Result<Verdict, Refusal> {
+    match code {
+        0 => Ok(Verdict::Yes),
+        100 => Ok(Verdict::Norm),
+        101 => Ok(Verdict::Commitment),
+        _ => Err(refusal(code)),
+    }
+}
+
+/// The membership with this code.
+pub(crate) fn membership(code: u8) -> Result<Membership, Refusal> {
+    match code {
+        0 => Ok(Membership::Member),
+        101 => Ok(Membership::Commitment),
+        102 => Ok(Membership::Long),
+        103 => Ok(Membership::Products),
+        _ => Err(refusal(code)),
+    }
+}
+
+#[cfg(test)]
+mod tests {
+    use super::*;
+
+    #[test]
+    fn every_refusal_has_its_own_code() {
+        for (place, refused) in REFUSALS.into_iter().enumerate() {
+            assert_eq!(usize::from(refused.number()), place + 1);
+            assert_eq!(answer(refused.number()), Err(refused));
+            assert_eq!(verdict(refused.number()), Err(refused));
+            assert_eq!(membership(refused.number()), Err(refused));
+        }
+    }
+
+    /// Whether a code has no meaning here.
+    fn fails<R>(decoded: fn(u8) -> R, code: u8) -> bool {
+        std::panic::catch_unwind(|| decoded(code)).is_err()
+    }
+
+    #[test]
+    fn codes_without_a_meaning_are_not_taken_for_one() {
+        for code in [13, 99, 104, 255] {
+            assert!(fails(answer, code) && fails(verdict, code) && fails(membership, code));
+        }
+        // A word of another operation is none either.
+        assert!([100, 101, 102, 103].iter().all(|code| fails(answer, *code)));
+        assert!(fails(verdict, 102) && fails(verdict, 103) && fails(membership, 100));
+    }
+}

@@ -1,0 +1,51 @@
+//! The functions of the static library as C sees them.
+//!
+//! The five numbers of a setting come first; each slice is a pointer and a length. Every
+//! function answers 0, a refusal from 1 to 12, or one of the words from 100 on.
+
+extern "C" {
+    pub fn lova_commit(
+        n: u64, m: u64, t: u64, b: u64, bound: u64,
+        a: *const u64, a_len: usize, s: *const i64, s_len: usize,
+        t_out: *mut u64, t_out_len: usize, d_out: *mut i64, d_out_len: usize,
+    ) -> u8;
+
+    pub fn lova_message(
+        n: u64, m: u64, t: u64, b: u64, bound: u64,
+        a: *const u64, a_len: usize, s1: *const i64, s1_len: usize, s2: *const i64, s2_len: usize,
+        v_out: *mut i64, v_out_len: usize, tt_out: *mut u64, tt_out_len: usize,
+        dd_out: *mut i64, dd_out_len: usize, ss_out: *mut i64, ss_out_len: usize,
+    ) -> u8;
+
+    pub fn lova_fold_witness(
+        n: u64, m: u64, t: u64, b: u64, bound: u64,
+        ss: *const i64, ss_len: usize, c: *const u8, c_len: usize, s_out: *mut i64, s_out_len: usize,
+    ) -> u8;
+
+    pub fn lova_join(
+        n: u64, m: u64, t: u64, b: u64, bound: u64,
+        t1: *const u64, t1_len: usize, d1: *const i64, d1_len: usize,
+        t2: *const u64, t2_len: usize, d2: *const i64, d2_len: usize, v: *const i64, v_len: usize,
+        t_out: *mut u64, t_out_len: usize, d_out: *mut i64, d_out_len: usize,
+    ) -> u8;
+
+    pub fn lova_verify(
+        n: u64, m: u64, t: u64, b: u64, bound: u64,
+        t1: *const u64, t1_len: usize, d1: *const i64, d1_len: usize,
+        t2: *const u64, t2_len: usize, d2: *const i64, d2_len: usize, v: *const i64, v_len: usize,
+        tt: *const u64, tt_len: usize, dd: *const i64, dd_len: usize, c: *const u8, c_len: usize,
+        t_out: *mut u64, t_out_len: usize, d_out: *mut i64, d_out_len: usize,
+    ) -> u8;
+
+    pub fn lova_test_relation(
+        n: u64, m: u64, t: u64, b: u64, bound: u64,
+        a: *const u64, a_len: usize, t_in: *const u64, t_in_len: usize,
+        d_in: *const i64, d_in_len: usize, s: *const i64, s_len: usize,
+    ) -> u8;
+
+    pub fn lova_setting(
+        n: u64, m: u64, t: u64, b: u64, bound: u64, record: *mut u64, record_len: usize,
+    ) -> u8;
+
+    pub fn lova_listed(number: u64, five: *mut u64, five_len: usize) -> u8;
+}

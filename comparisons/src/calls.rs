@@ -1,0 +1,282 @@
+//! Calls of the operations, made by the static library and by the reference.
+
+use crate::seed::seed;
+use lova::{Membership, Refusal, Setting, Verdict};
+use reference::operations::{self, Answer};
+use reference::settings::Parameters;
+use std::fmt::Display;
+use Matrix::*;
+use Slice::*;
+
+/// Places before and after each output that no call may touch.
+pub const GUARD: usize = 5;
+
+/// The operations.
+#[derive(Clone, Copy, Debug, PartialEq, Eq)]
+pub enum Operation {
+    Commit,
+    Message,
+    FoldWitness,
+    Join,
+    Verify,
+    TestRelation,
+}
+
+/// What a slice stands for.
+#[derive(Clone, Copy, Debug, PartialEq, Eq)]
+pub enum Matrix {
+    A,
+    S,
+    T,
+    D,
+    DigitT,
+    DigitD,
+    DigitS,
+    C,
+    JoinedT,
+    JoinedD,
+}
+
+/// The entries of a slice.
+#[derive(Clone, Debug, PartialEq, Eq)]
+pub enum Slice {
+    Words(Vec<u64>),
+    Numbers(Vec<i64>),
+    Bytes(Vec<u8>),
+}
+
+impl Operation {
+    /// All operations.
+    pub const ALL: [Operation; 6] = [
+        Operation::Commit,
+        Operation::Message,
+        Operation::FoldWitness,
+        Operation::Join,
+        Operation::Verify,
+        Operation::TestRelation,
+    ];
+
+    /// The work at an accepted setting, in products of two entries; that of making the inputs is in it.
+    pub fn work(self, p: &Parameters) -> u128 {
+        let (n, m, t, columns) = (p.n as u128, p.m as u128, p.t as u128, p.columns());
+        match self {
+            Operation::Commit | Operation::TestRelation => (n + t) * m * t,
+            Operation::Join => (n + t) * t,
+            Operation::FoldWitness => m * columns * t,
+            Operation::Message => (n + columns) * m * columns,
+            Operation::Verify => (n + columns) * (m + 3 * t) * columns,
+        }
+    }
+
+    /// The matrices that are read, in order; V has the shape of D.
+    pub fn reads(self) -> &'static [Matrix] {
+        match self {
+            Operation::Commit => &[A, S],
+            Operation::Message => &[A, S, S],
+            Operation::FoldWitness => &[DigitS, C],
+            Operation::Join => &[T, D, T, D, D],
+            Operation::Verify => &[T, D, T, D, D, DigitT, DigitD, C],
+            Operation::TestRelation => &[A, T, D, S],
+        }
+    }
+
+    /// The matrices that are written, in order.
+    pub fn writes(self) -> &'static [Matrix] {
+        match self {
+            Operation::Commit | Operation::Verify => &[T, D],
+            Operation::Message => &[D, DigitT, DigitD, DigitS],
+            Operation::FoldWitness => &[S],
+            Operation::Join => &[JoinedT, JoinedD],
+            Operation::TestRelation => &[],
+        }
+    }
+}
+
+impl Matrix {
+    /// The number of entries at a setting, accepted or not.
+    pub fn length(self, p: &Parameters) -> u128 {
+        let (n, m, t, columns) = (p.n as u128, p.m as u128, p.t as u128, p.columns());
+        let (rows, width) = match self {
+            A => (n, m),
+            S => (m, t),
+            T => (n, t),
+            D => (t, t),
+            DigitT => (n, columns),
+            DigitD => (columns, columns),
+            DigitS => (m, columns),
+            C => (columns, t),
+            JoinedT => (n, 2 * t),
+            JoinedD => (2 * t, 2 * t),
+        };
+        rows.saturating_mul(width)
+    }
+}
+
+impl Slice {
+    /// The number of entries.
+    pub fn length(&self) -> usize {
+        match self {
+            Words(entries) => entries.len(),
+            Numbers(entries) => entries.len(),
+            Bytes(entries) => entries.len(),
+        }
+    }
+
+    /// How an output differs from another one of its kind.
+    fn difference(&self, other: &Slice) -> String {
+        match (self, other) {
+            (Words(one), Words(two)) => first_difference(one, two),
+            (Numbers(one), Numbers(two)) => first_difference(one, two),
+            (Bytes(one), Bytes(two)) => first_difference(one, two),
+            _ => "another kind of entries".to_string(),
+        }
+    }
+
+    /// Cut or lengthen to this number of entries.
+    pub fn resize(&mut self, length: usize) {
+        match self {
+            Words(entries) => entries.resize(length, 1),
+            Numbers(entries) => entries.resize(length, 1),
+            Bytes(entries) => entries.resize(length, 1),
+        }
+    }
+}
+
+/// The first entry of an output that differs, counted from the start of the lent part.
+fn first_difference<E: PartialEq + Display>(own: &[E], other: &[E]) -> String {
+    match own.iter().zip(other).position(|(one, two)| one != two) {
+        Some(at) => format!("entry {} is {} instead of {}", at as isize - GUARD as isize, own[at], other[at]),
+        None => "no entry differs".to_string(),
+    }
+}
+
+/// A call: what is lent to it; the outputs hold noise and have guards around them.
+#[derive(Clone)]
+pub struct Call {
+    pub operation: Operation,
+    pub p: Parameters,
+    pub read: Vec<Slice>,
+    pub written: Vec<Slice>,
+}
+
+/// The part of an output that is lent.
+fn lent<E>(guarded: &mut [E]) -> &mut [E] {
+    let end = guarded.len() - GUARD;
+    &mut guarded[GUARD..end]
+}
+
+/// A refusal of the bindings as an answer of the reference.
+fn refused(refusal: Refusal) -> Answer {
+    Answer::Refused(refusal.number().into())
+}
+
+/// An answer of the bindings as one of the reference.
+fn answered(answer: lova::Answer) -> Answer {
+    answer.map_or_else(refused, |()| Answer::Done)
+}
+
+/// A verdict of the bindings as an answer of the reference.
+fn judged(verdict: Result<Verdict, Refusal>) -> Answer {
+    let word = |verdict| match verdict {
+        Verdict::Yes => Answer::Yes,
+        Verdict::Norm => Answer::Norm,
+        Verdict::Commitment => Answer::Commitment,
+    };
+    verdict.map_or_else(refused, word)
+}
+
+/// A membership of the bindings as an answer of the reference.
+fn related(membership: Result<Membership, Refusal>) -> Answer {
+    let word = |membership| match membership {
+        Membership::Member => Answer::Member,
+        Membership::Long => Answer::Long,
+        Membership::Products => Answer::Products,
+        Membership::Commitment => Answer::Commitment,
+    };
+    membership.map_or_else(refused, word)
+}
+
+impl Call {
+    /// The answer of the static library, with its outputs in these slices.
+    fn by_library(&self, written: &mut [Slice]) -> Answer {
+        let p = Setting::new(self.p.n, self.p.m, self.p.t, self.p.b, self.p.bound);
+        match (self.operation, &self.read[..], written) {
+            (Operation::Commit, [Words(a), Numbers(s)], [Words(t), Numbers(d)]) => {
+                answered(lova::commit(p, a, s, lent(t), lent(d)))
+            }
+            (
+                Operation::Message,
+                [Words(a), Numbers(s1), Numbers(s2)],
+                [Numbers(v), Words(tt), Numbers(dd), Numbers(ss)],
+            ) => answered(lova::message(p, a, s1, s2, lent(v), lent(tt), lent(dd), lent(ss))),
+            (Operation::FoldWitness, [Numbers(ss), Bytes(c)], [Numbers(s)]) => {
+                answered(lova::fold_witness(p, ss, c, lent(s)))
+            }
+            (
+                Operation::Join,
+                [Words(t1), Numbers(d1), Words(t2), Numbers(d2), Numbers(v)],
+                [Words(t), Numbers(d)],
+            ) => answered(lova::join(p, t1, d1, t2, d2, v, lent(t), lent(d))),
+            (
+                Operation::Verify,
+                [Words(t1), Numbers(d1), Words(t2), Numbers(d2), Numbers(v), Words(tt), Numbers(dd), Bytes(c)],
+                [Words(t), Numbers(d)],
+            ) => judged(lova::verify(p, t1, d1, t2, d2, v, tt, dd, c, lent(t), lent(d))),
+            (Operation::TestRelation, [Words(a), Words(t), Numbers(d), Numbers(s)], []) => {
+                related(lova::test_relation(p, a, t, d, s))
+            }
+            _ => panic!("the slices are not those of {:?}", self.operation),
+        }
+    }
+
+    /// The answer of the reference, with its outputs in these slices.
+    fn by_reference(&self, written: &mut [Slice]) -> Answer {
+        let p = &self.p;
+        match (self.operation, &self.read[..], written) {
+            (Operation::Commit, [Words(a), Numbers(s)], [Words(t), Numbers(d)]) => {
+                operations::commit(p, a, s, lent(t), lent(d))
+            }
+            (
+                Operation::Message,
+                [Words(a), Numbers(s1), Numbers(s2)],
+                [Numbers(v), Words(tt), Numbers(dd), Numbers(ss)],
+            ) => operations::message(p, a, s1, s2, lent(v), lent(tt), lent(dd), lent(ss)),
+            (Operation::FoldWitness, [Numbers(ss), Bytes(c)], [Numbers(s)]) => {
+                operations::folded_witness(p, ss, c, lent(s))
+            }
+            (
+                Operation::Join,
+                [Words(t1), Numbers(d1), Words(t2), Numbers(d2), Numbers(v)],
+                [Words(t), Numbers(d)],
+            ) => operations::join(p, t1, d1, t2, d2, v, lent(t), lent(d)),
+            (
+                Operation::Verify,
+                [Words(t1), Numbers(d1), Words(t2), Numbers(d2), Numbers(v), Words(tt), Numbers(dd), Bytes(c)],
+                [Words(t), Numbers(d)],
+            ) => operations::verdict(p, t1, d1, t2, d2, v, tt, dd, c, lent(t), lent(d)),
+            (Operation::TestRelation, [Words(a), Words(t), Numbers(d), Numbers(s)], []) => {
+                operations::relation(p, a, t, d, s)
+            }
+            _ => panic!("the slices are not those of {:?}", self.operation),
+        }
+    }
+
+    /// Make the call both ways. The answers must be equal, and so must all that the outputs and
+    /// their guards hold afterwards; without done or yes that is what they held before.
+    pub fn compare(&self, case: u64) -> Answer {
+        let (mut ours, mut theirs) = (self.written.clone(), self.written.clone());
+        let answer = self.by_library(&mut ours);
+        let expected = self.by_reference(&mut theirs);
+        let lengths: Vec<usize> = self.read.iter().map(Slice::length).collect();
+        let call = format!("{:?} at {:?}, lengths {lengths:?}", self.operation, self.p);
+        let place = || format!("seed {}, case {case}: {call}", seed());
+        assert_eq!(answer, expected, "{}", place());
+        if !matches!(expected, Answer::Done | Answer::Yes) {
+            assert!(ours == self.written, "{}: {expected:?}, and yet an output was written", place());
+        }
+        for (number, (own, other)) in ours.iter().zip(&theirs).enumerate() {
+            assert!(own == other, "{}: output {number}: {}", place(), own.difference(other));
+        }
+        expected
+    }
+}

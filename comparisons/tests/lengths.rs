@@ -1,0 +1,69 @@
+//! Every slice of every operation with wrong lengths, by one and by much: always 7, and nothing is written.
+
+use comparisons::calls::{Call, Operation};
+use comparisons::cases::{fitting, lent_slices, other_lengths};
+use comparisons::seed::{below, generator};
+use comparisons::settings::{accepted_where, FULL};
+use comparisons::tally::Tally;
+use reference::operations::Answer;
+use reference::settings::{Parameters, LIST};
+
+/// The work of a case, in products of two entries.
+const WORK: u128 = 4_000;
+
+/// Whether a setting is small enough for many cases.
+fn small(p: &Parameters) -> bool {
+    Operation::Verify.work(p) <= WORK
+}
+
+/// Give the slice at this place another length.
+fn change(call: &mut Call, place: usize, other: impl Fn(usize) -> usize) {
+    let (slice, around) = &mut lent_slices(call)[place];
+    let length = slice.length() - *around;
+    slice.resize(other(length) + *around);
+}
+
+/// The call with each slice in turn at each wrong length.
+fn each_slice(call: &Call, tally: &mut Tally, case: u64) {
+    for place in 0..call.read.len() + call.written.len() {
+        for kind in 0..5 {
+            let mut wrong = call.clone();
+            change(&mut wrong, place, |length| other_lengths(length)[kind]);
+            assert_eq!(wrong.compare(case), Answer::Refused(7));
+            tally.case(&format!("{:?}", call.operation));
+        }
+    }
+}
+
+#[test]
+fn wrong_lengths() {
+    let (mut rng, mut tally) = (generator("wrong_lengths"), Tally::new("wrong_lengths"));
+    for case in 0..300 {
+        let p = if case == 0 { LIST[0] } else { accepted_where(&mut rng, FULL, small) };
+        for operation in Operation::ALL {
+            let call = fitting(&mut rng, operation, p);
+            assert_ne!(call.compare(case), Answer::Refused(7));
+            each_slice(&call, &mut tally, case);
+        }
+    }
+    tally.finish(&["Commit", "FoldWitness", "Join", "Message", "TestRelation", "Verify"]);
+}
+
+#[test]
+fn one_entry_moved() {
+    // One slice longer by one, another shorter by one, so that the sum of the lengths is right.
+    let (mut rng, mut tally) = (generator("one_entry_moved"), Tally::new("one_entry_moved"));
+    for case in 0..9000 {
+        let p = accepted_where(&mut rng, FULL, small);
+        let operation = Operation::ALL[case as usize % 6];
+        let mut call = fitting(&mut rng, operation, p);
+        let slices = call.read.len() + call.written.len();
+        let longer = below(&mut rng, slices);
+        let shorter = (longer + 1 + below(&mut rng, slices - 1)) % slices;
+        change(&mut call, longer, |length| length + 1);
+        change(&mut call, shorter, |length| length - 1);
+        assert_eq!(call.compare(case), Answer::Refused(7));
+        tally.case(&format!("{operation:?}"));
+    }
+    tally.finish(&["Commit", "FoldWitness", "Join", "Message", "TestRelation", "Verify"]);
+}

@@ -1,0 +1,4 @@
+mod Writing
+mod Giving
+mod Passing
+pub mod Telling
