@@ -1,14 +1,14 @@
 -- Rows of a digit witness, written in two parts, and the witness written row by row.
-use mathlib.Core.Path.{_≡_, refl, sym, _∙_, ap}
+use mathlib.Core.Path.{_≡_, sym, _∙_, ap}
 use mathlib.Core.Logic.{⊎-elim}
-use mathlib.Core.List.{List, _++_, append-nil}
+use mathlib.Core.List.{List, _++_}
 use Prim.Native.Nat.{ℕ, _+_, _*_, _-_, _/_, _%_, _<_, _≤_}
 use native.Mathlib.Omega.{arith}
 use native.Mathlib.Nat.{div-lt-iff-lt-mul, add-mul, one-mul}
 use lib.Arith.{digits-div, digits-mod}
 use lib.IntN.{ℤ, pos}
-use lib.ListN.{length, getD, take, drop, length-append, length-drop, drop-of-length-le, List·getD-append}
-use lib.Seq.{take-at, drop-at, getD-take, getD-drop, getD-append-add, length-take-le}
+use lib.ListN.{length, getD, take, drop, length-append, length-drop, List·getD-append}
+use lib.Seq.{getD-take, getD-drop, getD-append-add, length-take-le}
 use Rattle.integers.proofs.Lists.{getD-build, filled-part}
 use Rattle.integers.proofs.Tests.{le-or-lt}
 use Rattle.matrices.proofs.Tables.{TableTo, row-within}
@@ -18,13 +18,6 @@ use Rattle.digits.proofs.Rows.{digitAt, length-rowDigits}
 use Rattle.lova.specs.Stored.{matrixS}
 use Rattle.lova.specs.Fold.{besideS, digitWitness}
 use Rattle.lova.proofs.Blocks.{beside-left, beside-right}
-
--- the first a places have come back as ys, and then all places from a on as zs
-pub two-parts : (a : ℕ) (row ys zs : List ℤ) → length ys ≡ a
-    → take a (ys ++ drop a row) ++ (zs ++ drop (length (ys ++ drop a row) - a) (drop a (ys ++ drop a row))) ≡ ys ++ zs
-two-parts a row ys zs e =
-    let end : length (drop a row) ≤ length (ys ++ drop a row) - a = omega (arith, length-append ys (drop a row)) in
-    rw (take-at ys (drop a row) a e, drop-at ys (drop a row) a e, drop-of-length-le (drop a row) end, append-nil zs) refl
 
 -- row i of a matrix stored by rows
 abbrev pub rowOf : ℕ → List ℤ → ℕ → List ℤ

@@ -17,8 +17,8 @@ fn write_both(left: &[i64], right: &[i64], b: u64, k: usize, row: &mut [i64])
     ensures { λ _. ⌜ now (row .exit) ≡ rowDigits b k (now (left .entry) ++ now (right .entry)) ⌝ }
 {
     let middle = left.len() * k;
-    digits::write_row(left, b, k, &mut row[..middle]);
-    digits::write_row(right, b, k, &mut row[middle..]);
+    digit_rows::write_row(left, b, k, &mut row[..middle]);
+    digit_rows::write_row(right, b, k, &mut row[middle..]);
 }
 
 // Writes the digit witness of [s1 s2], row by row.

@@ -1,8 +1,8 @@
 // The digit writer: document 01's digit rule.
 ghost use mathlib.Core.Path.{_≡_};
-ghost use Prim.Native.Nat.{_*_, _≤_};
+ghost use Prim.Native.Nat.{_≤_};
 ghost use lib.ListN.{length};
-ghost use Rattle.digits.specs.Digits.{stepOf, digitsOf, rowDigits};
+ghost use Rattle.digits.specs.Digits.{stepOf, digitsOf};
 
 // One step of the rule: a digit, and what is left of the size.
 pub struct Step {
@@ -41,20 +41,5 @@ pub fn write_digits(x: i64, b: u64, out: &mut [i64])
         out[p] = if x < 0 { 0 - s.digit } else { s.digit };
         w = s.rest;
         p += 1;
-    }
-}
-
-// Writes the k digits of each entry of s into its own part of the row.
-pub fn write_row(s: &[i64], b: u64, k: usize, row: &mut [i64])
-    requires { ⌜ 2 ≤ b ⌝ }
-    requires { ⌜ length (now row) ≡ length (now s) * k ⌝ }
-    ensures { λ _. ⌜ now (row .exit) ≡ rowDigits b k (now (s .entry)) ⌝ }
-{
-    let mut j: usize = 0;
-    while j < s.len() {
-        let start = j * k;
-        let end = start + k;
-        write_digits(s[j], b, &mut row[start..end]);
-        j += 1;
     }
 }

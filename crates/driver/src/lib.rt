@@ -1,72 +1,14 @@
 // The whole program over a descriptor. Every program that runs a chain calls `run`. What the system reads and writes is
 // assumed of libc; what is done with the bytes is proved.
 ghost use mathlib.Core.Path.{_≡_};
-ghost use Prim.Native.Nat.{_+_, _^_, _≤_, _<_};
+ghost use Prim.Native.Nat.{_^_, _<_};
 ghost use lib.ListN.{length};
-ghost use Rattle.chain.specs.Program.{feedAll};
-ghost use Rattle.runs.specs.Lent.{Lent, Roomy};
-ghost use Rattle.feeds.specs.Feeds.{feedingOf, Steady};
-ghost use Rattle.driver.specs.Driver.{SaysStopped};
+ghost use Rattle.states.specs.Lent.{Roomy};
+ghost use Rattle.feeds.specs.Feeds.{Steady};
 use feeds::Feed;
-use runs::Due;
 
 // How many chunks are read at most: 2^61 bytes.
 const CHUNKS: u64 = 35184372088832;
-
-// Writes bytes to standard output, and says so on standard error where that fails.
-fn print(bytes: &[u8]) {
-    if !io::write_all(1, bytes) {
-        io::write_all(2, b"standard output cannot be written\n");
-    }
-}
-
-// Feeds a whole chunk, and prints what comes of it.
-fn feed_chunk(
-    feed: Feed,
-    chunk: &[u8],
-    line: &mut [u8],
-    a: &mut [u64],
-    t1: &mut [u64],
-    d1: &mut [i64],
-    s1: &mut [i64],
-    t2: &mut [u64],
-    d2: &mut [i64],
-    s2: &mut [i64],
-    out: &mut [u8],
-) -> Feed
-    requires { ⌜ Steady feed (now line) × (feed .run .line + length (now chunk) < 2 ^ 62) × Roomy (now out) ⌝ }
-    requires { ⌜ Lent (record { A = now a; T₁ = now t1; D₁ = now d1; S₁ = now s1; T₂ = now t2; D₂ = now d2; S₂ = now s2 }) ⌝ }
-    ensures { λ r. ⌜ feedingOf r (now (line .exit)) (record { A = now (a .exit); T₁ = now (t1 .exit); D₁ = now (d1 .exit); S₁ = now (s1 .exit); T₂ = now (t2 .exit); D₂ = now (d2 .exit); S₂ = now (s2 .exit) }) ≡ feedAll (feedingOf feed (now (line .entry)) (record { A = now (a .entry); T₁ = now (t1 .entry); D₁ = now (d1 .entry); S₁ = now (s1 .entry); T₂ = now (t2 .entry); D₂ = now (d2 .entry); S₂ = now (s2 .entry) })) (now (chunk .entry)) ⌝ }
-    ensures { λ r. ⌜ Steady r (now (line .exit)) × (r .run .line ≤ feed .run .line + length (now (chunk .entry))) ⌝ }
-{
-    let mut current = feed;
-    let mut at: usize = 0;
-    while at < chunk.len() {
-        let fed = current.read(&chunk[at..], line, a, t1, d1, s1, t2, d2, s2, out);
-        let length = fed.length;
-        print(&out[..length]);
-        at += fed.used;
-        let next = fed.feed;
-        current = next;
-    }
-    current
-}
-
-// Whether a line was refused, so that nothing more is to be read.
-fn has_stopped(feed: Feed) -> bool
-    ensures { λ r. ⌜ SaysStopped r feed ⌝ }
-{
-    let run = feed.run;
-    let due = run.due;
-    match due {
-        Due::Nothing => true,
-        Due::Param => false,
-        Due::Matrix => false,
-        Due::First => false,
-        Due::Leaf => false,
-        Due::Challenge => false,
-    }
-}
 
 // Prints the last line, or says on standard error that the input could not be read.
 fn finish(
@@ -87,7 +29,7 @@ fn finish(
         return;
     }
     let last = feed.end(line, a, t1, d1, s1, out);
-    print(&out[..last]);
+    chunks::print(&out[..last]);
 }
 
 // Runs the chain on what a descriptor gives, up to its end or to the first line that is refused.
@@ -111,7 +53,7 @@ pub fn run(fd: i32) {
             finish(got, feed, &line, &a, &t1, &d1, &s1, &mut out);
             return;
         }
-        feed = feed_chunk(
+        feed = chunks::feed_chunk(
             feed,
             &chunk[..n],
             &mut line,
@@ -124,7 +66,7 @@ pub fn run(fd: i32) {
             &mut s2,
             &mut out,
         );
-        if has_stopped(feed) {
+        if feed.has_stopped() {
             return;
         }
         turns += 1;

@@ -2,14 +2,14 @@
 use mathlib.Core.Path.{_≡_, refl, sym, _∙_, ap, ap₂}
 use mathlib.Core.Logic.{⊎-elim}
 use mathlib.Core.Bool.{Bool}
-use mathlib.Core.List.{List, [], _∷_, _++_, map}
+use mathlib.Core.List.{List, [], _∷_, _++_, map, append-nil}
 use Prim.Native.Nat.{ℕ, zero, suc, _+_, _-_, _<_, _≤_}
 use native.Mathlib.Omega.{arith}
 use native.Mathlib.Nat.{le-of-suc-le-suc}
 use borrow.Author.Count.{below-more}
 use lib.Dec.{T}
-use lib.ListN.{length, getD, set, take, drop, replicate, length-replicate, getD-replicate, length-append, length-take, length-drop, length-set, List·getD-append}
-use lib.Seq.{ext-getD, getD-set-same, getD-set-other, getD-take, getD-drop, getD-append-add, length-take-le}
+use lib.ListN.{length, getD, set, take, drop, replicate, length-replicate, getD-replicate, length-append, length-take, length-drop, length-set, drop-of-length-le, List·getD-append}
+use lib.Seq.{ext-getD, getD-set-same, getD-set-other, getD-take, getD-drop, getD-append-add, length-take-le, take-at, drop-at}
 use Rattle.integers.proofs.Tests.{le-or-lt, and-fst, and-snd}
 use Rattle.integers.specs.Lists.{build, every}
 
@@ -121,3 +121,10 @@ module _ {A : Type 0} (n : ℕ) (f : ℕ → A) (d : A) where
 -- a constant builds a repeat
 pub build-constant : {A : Type 0} (n : ℕ) (v : A) → build n (λ i. v) ≡ replicate n v
 build-constant n v = sym (is-build n (λ i. v) v (replicate n v) (length-replicate n v) (λ i h. getD-replicate n i v v h))
+
+-- a list whose first a elements have come back as ys, and then all from a on as zs
+pub two-parts : {A : Type 0} (a : ℕ) (xs ys zs : List A) → length ys ≡ a
+    → take a (ys ++ drop a xs) ++ (zs ++ drop (length (ys ++ drop a xs) - a) (drop a (ys ++ drop a xs))) ≡ ys ++ zs
+two-parts a xs ys zs e =
+    let end : length (drop a xs) ≤ length (ys ++ drop a xs) - a = omega (arith, length-append ys (drop a xs)) in
+    rw (take-at ys (drop a xs) a e, drop-at ys (drop a xs) a e, drop-of-length-le (drop a xs) end, append-nil zs) refl

@@ -1,4 +1,2 @@
-mod Writing
 mod Giving
 mod Passing
-pub mod Telling

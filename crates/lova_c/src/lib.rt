@@ -2,73 +2,16 @@
 // its five numbers n, m, t, b and bound. Each function returns a code: 0 for done, yes and member, 1 to 12 for the refusals,
 // 100 for norm, 101 for commitment, 102 for long, 103 for products. `include/lova.h` declares them.
 ghost use mathlib.Core.Path.{_≡_};
-ghost use lib.ListN.{length};
-ghost use Rattle.settings.specs.Settings.{parametersOf};
 ghost use Rattle.settings.specs.HouseList.{parameters};
-ghost use Rattle.lova.specs.Answers.{answerOf, verdictOf, membershipOf};
 ghost use Rattle.lova.specs.Commit.{commit};
 ghost use Rattle.lova.specs.Message.{message};
 ghost use Rattle.lova.specs.Witness.{witness};
 ghost use Rattle.lova.specs.Join.{join};
 ghost use Rattle.lova.specs.Verdict.{verdict};
 ghost use Rattle.lova.specs.Relation.{relation};
-ghost use Rattle.lova_c.specs.Codes.{codeOf};
-ghost use Rattle.lova_c.specs.Given.{workedOut, fiveOf, settingGiven, listedGiven};
-use lova::Answer;
-use lova::Membership;
-use lova::Verdict;
+ghost use Rattle.codes.specs.Codes.{codeOf};
+ghost use Rattle.codes.specs.Given.{settingGiven, listedGiven};
 use settings::Setting;
-
-// A setting of five numbers, not checked: the operations look at no more.
-fn setting_of(n: u64, m: u64, t: u64, b: u64, bound: u64) -> Setting
-    ensures { λ r. ⌜ parametersOf r ≡ parameters n m t b bound ⌝ }
-{
-    Setting {
-        n: n as usize,
-        m: m as usize,
-        t: t as usize,
-        b: b,
-        bound: bound,
-        k: 0,
-        columns: 0,
-        powers: [0; Setting::POWERS],
-    }
-}
-
-// The code of an answer.
-fn code_of_answer(answer: Answer) -> u8
-    ensures { λ r. ⌜ r ≡ codeOf (answerOf answer) ⌝ }
-{
-    match answer {
-        Answer::Done => 0,
-        Answer::Refused(number) => number,
-    }
-}
-
-// The code of a verdict.
-fn code_of_verdict(verdict: Verdict) -> u8
-    ensures { λ r. ⌜ r ≡ codeOf (verdictOf verdict) ⌝ }
-{
-    match verdict {
-        Verdict::Yes => 0,
-        Verdict::Norm => 100,
-        Verdict::Commitment => 101,
-        Verdict::Refused(number) => number,
-    }
-}
-
-// The code of the relation test's answer.
-fn code_of_membership(membership: Membership) -> u8
-    ensures { λ r. ⌜ r ≡ codeOf (membershipOf membership) ⌝ }
-{
-    match membership {
-        Membership::Member => 0,
-        Membership::Commitment => 101,
-        Membership::Long => 102,
-        Membership::Products => 103,
-        Membership::Refused(number) => number,
-    }
-}
 
 // Commit: writes T and D of the witness s. Refusals 1 to 8.
 #[no_mangle]
@@ -86,8 +29,8 @@ pub extern "C" fn lova_commit(
     ensures { λ r. ⌜ r ≡ codeOf ((commit (parameters n m t b bound) (now (a .entry)) (now (s .entry)) (record { T = now («t_out» .entry); D = now («d_out» .entry) })) .answer) ⌝ }
     ensures { λ _. ⌜ record { T = now («t_out» .exit); D = now («d_out» .exit) } ≡ (commit (parameters n m t b bound) (now (a .entry)) (now (s .entry)) (record { T = now («t_out» .entry); D = now («d_out» .entry) })) .outputs ⌝ }
 {
-    let answer = commitments::commit(setting_of(n, m, t, b, bound), a, s, t_out, d_out);
-    code_of_answer(answer)
+    let answer = commitments::commit(codes::setting_of(n, m, t, b, bound), a, s, t_out, d_out);
+    codes::code_of_answer(answer)
 }
 
 // Message: writes V, T~, D~ and the digit witness S~ of the witnesses s1 and s2. Refusals 1 to 8.
@@ -109,8 +52,9 @@ pub extern "C" fn lova_message(
     ensures { λ r. ⌜ r ≡ codeOf ((message (parameters n m t b bound) (now (a .entry)) (now (s1 .entry)) (now (s2 .entry)) (record { message = record { «V» = now (v .entry); T~ = now (tt .entry); D~ = now (dd .entry) }; S~ = now (ss .entry) })) .answer) ⌝ }
     ensures { λ _. ⌜ record { message = record { «V» = now (v .exit); T~ = now (tt .exit); D~ = now (dd .exit) }; S~ = now (ss .exit) } ≡ (message (parameters n m t b bound) (now (a .entry)) (now (s1 .entry)) (now (s2 .entry)) (record { message = record { «V» = now (v .entry); T~ = now (tt .entry); D~ = now (dd .entry) }; S~ = now (ss .entry) })) .outputs ⌝ }
 {
-    let answer = messages::message(setting_of(n, m, t, b, bound), a, s1, s2, v, tt, dd, ss);
-    code_of_answer(answer)
+    let setting = codes::setting_of(n, m, t, b, bound);
+    let answer = messages::message(setting, a, s1, s2, v, tt, dd, ss);
+    codes::code_of_answer(answer)
 }
 
 // Folded witness: writes s = S' = S~ C. Refusals 1 to 7, 9 and 11.
@@ -128,8 +72,8 @@ pub extern "C" fn lova_fold_witness(
     ensures { λ r. ⌜ r ≡ codeOf ((witness (parameters n m t b bound) (now (ss .entry)) (now (c .entry)) (now (s .entry))) .answer) ⌝ }
     ensures { λ _. ⌜ now (s .exit) ≡ (witness (parameters n m t b bound) (now (ss .entry)) (now (c .entry)) (now (s .entry))) .outputs ⌝ }
 {
-    let answer = witnesses::fold_witness(setting_of(n, m, t, b, bound), ss, c, s);
-    code_of_answer(answer)
+    let answer = witnesses::fold_witness(codes::setting_of(n, m, t, b, bound), ss, c, s);
+    codes::code_of_answer(answer)
 }
 
 // Join: writes [T1 T2] and [D1 V; V-transposed D2]. Refusals 1 to 7.
@@ -151,9 +95,9 @@ pub extern "C" fn lova_join(
     ensures { λ r. ⌜ r ≡ codeOf ((join (parameters n m t b bound) (record { T = now (t1 .entry); D = now (d1 .entry) }) (record { T = now (t2 .entry); D = now (d2 .entry) }) (now (v .entry)) (record { T = now («t_out» .entry); D = now («d_out» .entry) })) .answer) ⌝ }
     ensures { λ _. ⌜ record { T = now («t_out» .exit); D = now («d_out» .exit) } ≡ (join (parameters n m t b bound) (record { T = now (t1 .entry); D = now (d1 .entry) }) (record { T = now (t2 .entry); D = now (d2 .entry) }) (now (v .entry)) (record { T = now («t_out» .entry); D = now («d_out» .entry) })) .outputs ⌝ }
 {
-    let setting = setting_of(n, m, t, b, bound);
+    let setting = codes::setting_of(n, m, t, b, bound);
     let answer = joins::join(setting, t1, d1, t2, d2, v, t_out, d_out);
-    code_of_answer(answer)
+    codes::code_of_answer(answer)
 }
 
 // Verify: the verdict on a message; on yes it writes T' and D'. Refusals 1 to 7, 9 and 10.
@@ -178,9 +122,9 @@ pub extern "C" fn lova_verify(
     ensures { λ r. ⌜ r ≡ codeOf ((verdict (parameters n m t b bound) (record { T = now (t1 .entry); D = now (d1 .entry) }) (record { T = now (t2 .entry); D = now (d2 .entry) }) (record { «V» = now (v .entry); T~ = now (tt .entry); D~ = now (dd .entry) }) (now (c .entry)) (record { T = now («t_out» .entry); D = now («d_out» .entry) })) .answer) ⌝ }
     ensures { λ _. ⌜ record { T = now («t_out» .exit); D = now («d_out» .exit) } ≡ (verdict (parameters n m t b bound) (record { T = now (t1 .entry); D = now (d1 .entry) }) (record { T = now (t2 .entry); D = now (d2 .entry) }) (record { «V» = now (v .entry); T~ = now (tt .entry); D~ = now (dd .entry) }) (now (c .entry)) (record { T = now («t_out» .entry); D = now («d_out» .entry) })) .outputs ⌝ }
 {
-    let setting = setting_of(n, m, t, b, bound);
+    let setting = codes::setting_of(n, m, t, b, bound);
     let verdict = verdicts::verify(setting, t1, d1, t2, d2, v, tt, dd, c, t_out, d_out);
-    code_of_verdict(verdict)
+    codes::code_of_verdict(verdict)
 }
 
 // The relation test: whether S is a witness of the instance T, D. Refusals 1 to 7.
@@ -198,36 +142,9 @@ pub extern "C" fn lova_test_relation(
 ) -> u8
     ensures { λ r. ⌜ r ≡ codeOf ((relation (parameters n m t b bound) (now (a .entry)) (record { T = now («t_in» .entry); D = now («d_in» .entry) }) (now (s .entry))) .answer) ⌝ }
 {
-    let membership = relations::test_relation(setting_of(n, m, t, b, bound), a, t_in, d_in, s);
-    code_of_membership(membership)
-}
-
-// Writes k, N and the powers of b.
-fn write_worked_out(setting: Setting, out: &mut [u64])
-    requires { ⌜ length (now out) ≡ 35 ⌝ }
-    requires { ⌜ length (setting .powers) ≡ 33 ⌝ }
-    ensures { λ _. ⌜ now (out .exit) ≡ workedOut setting ⌝ }
-{
-    out[0] = setting.k as u64;
-    out[1] = setting.columns as u64;
-    let powers = setting.powers;
-    let mut p: usize = 0;
-    while p < Setting::POWERS {
-        out[2 + p] = powers[p];
-        p += 1;
-    }
-}
-
-// Writes n, m, t, b and B.
-fn write_five(setting: Setting, out: &mut [u64])
-    requires { ⌜ length (now out) ≡ 5 ⌝ }
-    ensures { λ _. ⌜ now (out .exit) ≡ fiveOf setting ⌝ }
-{
-    out[0] = setting.n as u64;
-    out[1] = setting.m as u64;
-    out[2] = setting.t as u64;
-    out[3] = setting.b;
-    out[4] = setting.bound;
+    let setting = codes::setting_of(n, m, t, b, bound);
+    let membership = relations::test_relation(setting, a, t_in, d_in, s);
+    codes::code_of_membership(membership)
 }
 
 // The setting of five numbers: writes k, N and the 33 powers of b. Refusals 1 to 7.
@@ -244,7 +161,7 @@ pub extern "C" fn lova_setting(n: u64, m: u64, t: u64, b: u64, bound: u64, out: 
     if out.len() != 2 + Setting::POWERS {
         return 7;
     }
-    write_worked_out(checked.setting, out);
+    codes::write_worked_out(checked.setting, out);
     0
 }
 
@@ -262,6 +179,6 @@ pub extern "C" fn lova_listed(number: u64, out: &mut [u64]) -> u8
     if out.len() != 5 {
         return 7;
     }
-    write_five(checked.setting, out);
+    codes::write_five(checked.setting, out);
     0
 }

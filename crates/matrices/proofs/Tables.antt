@@ -6,8 +6,8 @@ use Prim.Native.Nat.{ℕ, zero, suc, _+_, _*_, _-_, _/_, _%_, _<_, _≤_}
 use native.Mathlib.Omega.{arith}
 use native.Mathlib.Nat.{div-add-mod', div-lt-iff-lt-mul, mod-lt, add-mul, one-mul, suc-mul, mul-le-mul-right}
 use lib.Arith.{digits-lt, digits-div, digits-mod}
-use lib.ListN.{length, getD, set, take, drop}
-use lib.Seq.{ext-getD}
+use lib.ListN.{length, getD, set, take, drop, length-drop}
+use lib.Seq.{ext-getD, getD-take, getD-drop, length-take-le}
 use lib.IntN.{ℤ}
 use Rattle.integers.specs.Lists.{build}
 use Rattle.integers.proofs.Lists.{length-build, getD-build, Filled, filled-none, filled-more, filled-part, filled-all}
@@ -38,6 +38,13 @@ module _ {A : Type 0} where
   pub entries-table : (value : A → ℤ) (d : A) (rows cols : ℕ) (f : ℕ → ℕ → A)
       → Agree rows cols (entries value d cols (table rows cols f)) (λ i j. value (f i j))
   entries-table value d rows cols f i j hi hj = ap value (entry-table d rows cols f i j hi hj)
+
+  -- row i, lent as a part: its length, and what stands in it
+  pub row-long : (rows cols i : ℕ) (xs : List A) → length xs ≡ rows * cols → i < rows → length (take (i * cols + cols - i * cols) (drop (i * cols) xs)) ≡ cols
+  row-long rows cols i xs e h = length-take-le (i * cols + cols - i * cols) (drop (i * cols) xs) (rw (length-drop (i * cols) xs) (omega (arith, e, row-within rows cols i h))) ∙ omega arith
+
+  pub row-at : (d : A) (cols i : ℕ) (xs : List A) (j : ℕ) → j < cols → getD (take (i * cols + cols - i * cols) (drop (i * cols) xs)) j d ≡ entry d cols xs i j
+  row-at d cols i xs j h = getD-take (i * cols + cols - i * cols) (drop (i * cols) xs) j d (omega arith) ∙ getD-drop (i * cols) xs j d
 
   -- two lists of the stated length with the same entries are equal
   pub entry-ext : (d : A) (rows cols : ℕ) (xs ys : List A) → length xs ≡ rows * cols → length ys ≡ rows * cols

@@ -7,15 +7,7 @@ use mir.Syntax.{w64}
 use mir.Val.{SFits, toZ, ofZ}
 use mir.ValLaws.{toZ-ofZ}
 use Rattle.integers.specs.Residues.{word}
-use Rattle.integers.proofs.Sums.{sum-step}
 use Rattle.integers.proofs.Residues.{residue-+, residue-*}
-use Rattle.matrices.specs.Matrices.{product}
-
--- Turn k of an entry of a product adds the product of the two elements that it reads, x i k and y k j. It is one lemma for
--- signed and unsigned elements: their signedness only decides the numbers that they stand for, `u` and `v`.
-pub turn : {A B : Type 0} (u : A → ℤ) (v : B → ℤ) (x : ℕ → ℕ → A) (y : ℕ → ℕ → B) (i j k : ℕ)
-    → product (k + 1) (λ i k. u (x i k)) (λ k j. v (y k j)) i j ≡ product k (λ i k. u (x i k)) (λ k j. v (y k j)) i j +ℤ u (x i k) *ℤ v (y k j)
-turn u v x y i j k = sum-step k (λ k. u (x i k) *ℤ v (y k j))
 
 -- A turn where nothing leaves a signed word, as the machine does it: `sum` holds the bits of what was summed before,
 -- x and y are the factors, and `after` is what is summed then.

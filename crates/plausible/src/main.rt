@@ -4,7 +4,6 @@
 mod pairs;
 
 use settings::Setting;
-use shown::calls;
 use shown::print;
 
 fn main() {
@@ -18,7 +17,7 @@ fn main() {
 // By the remainder of a negative entry its digit would be 1 and the rest -1 again, without end.
 fn minus_one() {
     let mut five = [0i64; 5];
-    calls::digits_of(-1, 2, &mut five);
+    prover_calls::digits_of(-1, 2, &mut five);
 }
 
 // A witness whose square is 0 modulo 2^64: by sums that wrap it would commit. T and D hold 111 and -222 before.
@@ -26,13 +25,13 @@ fn wrapping_square() {
     let one = Setting::listed(1);
     let mut t = [111u64; 1];
     let mut d = [-222i64; 1];
-    calls::committed(one.setting, &[3], &[4294967296], &mut t, &mut d);
+    prover_calls::committed(one.setting, &[3], &[4294967296], &mut t, &mut d);
 }
 
 // By a size in a signed word, whose square is 0 too, this would be a member.
 fn lowest_word() {
     let one = Setting::listed(1);
-    calls::tested(
+    verifier_calls::tested(
         one.setting,
         &[3],
         &[9223372036854775808],

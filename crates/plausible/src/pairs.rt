@@ -2,7 +2,7 @@
 // 111, -222 or -333 before.
 use settings::Checked;
 use settings::Setting;
-use shown::calls;
+use shown::answers;
 use shown::print;
 
 const A: [u64; 2] = [3, 18446744073709551615];
@@ -61,7 +61,7 @@ struct Message {
 }
 
 pub fn fold() {
-    calls::asked(1, 2, 2, 3, 512);
+    answers::asked(1, 2, 2, 3, 512);
     let first = committed(S1);
     let second = committed(S2);
     let message = sent();
@@ -80,7 +80,7 @@ fn committed(s: [i64; 4]) -> Instance {
     let given = pair();
     let mut t = [111u64; 2];
     let mut d = [-222i64; 4];
-    calls::committed(given.setting, &A, &s, &mut t, &mut d);
+    prover_calls::committed(given.setting, &A, &s, &mut t, &mut d);
     Instance { t: t, d: d }
 }
 
@@ -90,7 +90,7 @@ fn sent() -> Message {
     let mut tt = [111u64; 16];
     let mut dd = [-222i64; 256];
     let mut ss = [-333i64; 32];
-    calls::sent(
+    prover_calls::sent(
         given.setting,
         &A,
         &S1,
@@ -118,11 +118,29 @@ fn joined(first: Instance, second: Instance, message: Message) {
     let v = message.v;
     let mut t = [111u64; 4];
     let mut d = [-222i64; 16];
-    calls::joined(given.setting, &t1, &d1, &t2, &d2, &v, &mut t, &mut d);
+    verifier_calls::joined(given.setting, &t1, &d1, &t2, &d2, &v, &mut t, &mut d);
+}
+
+// The verdict by what is lent. It stands apart from the records that hold it, since a function is checked step by step
+// beside all that it holds.
+fn verdict(
+    t1: &[u64],
+    d1: &[i64],
+    t2: &[u64],
+    d2: &[i64],
+    v: &[i64],
+    tt: &[u64],
+    dd: &[i64],
+    c: &[u8],
+) -> Instance {
+    let given = pair();
+    let mut t = [111u64; 2];
+    let mut d = [-222i64; 4];
+    verifier_calls::judged(given.setting, t1, d1, t2, d2, v, tt, dd, c, &mut t, &mut d);
+    Instance { t: t, d: d }
 }
 
 fn judged(first: Instance, second: Instance, message: Message, c: [u8; 32]) -> Instance {
-    let given = pair();
     let t1 = first.t;
     let d1 = first.d;
     let t2 = second.t;
@@ -130,35 +148,24 @@ fn judged(first: Instance, second: Instance, message: Message, c: [u8; 32]) -> I
     let v = message.v;
     let tt = message.tt;
     let dd = message.dd;
-    let mut t = [111u64; 2];
-    let mut d = [-222i64; 4];
-    calls::judged(
-        given.setting,
-        &t1,
-        &d1,
-        &t2,
-        &d2,
-        &v,
-        &tt,
-        &dd,
-        &c,
-        &mut t,
-        &mut d,
-    );
-    Instance { t: t, d: d }
+    verdict(&t1, &d1, &t2, &d2, &v, &tt, &dd, &c)
 }
 
 // The fold by C, and its end.
 fn folded(first: Instance, second: Instance, message: Message) {
     print::text(b"fold");
     let instance = judged(first, second, message, C);
-    let given = pair();
     let ss = message.ss;
+    ended(instance, ss);
+}
+
+fn ended(instance: Instance, ss: [i64; 32]) {
+    let given = pair();
     let mut s = [-333i64; 4];
-    calls::folded(given.setting, &ss, &C, &mut s);
+    prover_calls::folded(given.setting, &ss, &C, &mut s);
     let t = instance.t;
     let d = instance.d;
-    calls::tested(given.setting, &A, &t, &d, &s);
+    verifier_calls::tested(given.setting, &A, &t, &d, &s);
 }
 
 // A message with V transposed. T' and D' stay as they are.

@@ -1,20 +1,19 @@
 // The points about single entries: digits, and witnesses of Setting 1.
 ghost use Prim.Native.Nat.{_≤_};
 use super::example;
-use shown::calls;
 
 fn five_digits(x: i64, b: u64)
     requires { ⌜ 2 ≤ b ⌝ }
 {
     let mut digits = [0i64; 5];
-    calls::digits_of(x, b, &mut digits);
+    prover_calls::digits_of(x, b, &mut digits);
 }
 
 fn three_digits(x: i64, b: u64)
     requires { ⌜ 2 ≤ b ⌝ }
 {
     let mut digits = [0i64; 3];
-    calls::digits_of(x, b, &mut digits);
+    prover_calls::digits_of(x, b, &mut digits);
 }
 
 pub fn digit_points() {

@@ -1,6 +1,5 @@
 // Document 01's fold: Setting 1 with A = 3, witnesses 7 and -5. Outputs hold 111, -222 or -333 before.
 use settings::Setting;
-use shown::calls;
 use shown::print;
 
 // An instance of Setting 1: T and D have one entry each.
@@ -22,7 +21,7 @@ pub fn committed(a: u64, s: i64) -> Instance {
     let one = Setting::listed(1);
     let mut t = [111u64; 1];
     let mut d = [-222i64; 1];
-    calls::committed(one.setting, &[a], &[s], &mut t, &mut d);
+    prover_calls::committed(one.setting, &[a], &[s], &mut t, &mut d);
     Instance { t: t[0], d: d[0] }
 }
 
@@ -42,7 +41,7 @@ fn sent() -> Message {
     let mut tt = [111u64; 10];
     let mut dd = [-222i64; 100];
     let mut ss = [-333i64; 10];
-    calls::sent(
+    prover_calls::sent(
         one.setting,
         &[3],
         &[7],
@@ -60,15 +59,30 @@ fn sent() -> Message {
     }
 }
 
-fn judged(first: Instance, second: Instance, message: Message, c: [u8; 10]) -> Instance {
+// The verdict by what is lent. It stands apart from the records that hold it, since a function is checked step by step
+// beside all that it holds.
+fn verdict(
+    t1: &[u64],
+    d1: &[i64],
+    t2: &[u64],
+    d2: &[i64],
+    v: &[i64],
+    tt: &[u64],
+    dd: &[i64],
+    c: &[u8],
+) -> Instance {
     let one = Setting::listed(1);
+    let mut t = [111u64; 1];
+    let mut d = [-222i64; 1];
+    verifier_calls::judged(one.setting, t1, d1, t2, d2, v, tt, dd, c, &mut t, &mut d);
+    Instance { t: t[0], d: d[0] }
+}
+
+fn judged(first: Instance, second: Instance, message: Message, c: [u8; 10]) -> Instance {
     let v = message.v;
     let tt = message.tt;
     let dd = message.dd;
-    let mut t = [111u64; 1];
-    let mut d = [-222i64; 1];
-    calls::judged(
-        one.setting,
+    verdict(
         &[first.t],
         &[first.d],
         &[second.t],
@@ -77,10 +91,7 @@ fn judged(first: Instance, second: Instance, message: Message, c: [u8; 10]) -> I
         &tt,
         &dd,
         &c,
-        &mut t,
-        &mut d,
-    );
-    Instance { t: t[0], d: d[0] }
+    )
 }
 
 // The printed challenge, and the fold's end.
@@ -88,11 +99,15 @@ fn folded(first: Instance, second: Instance, message: Message) {
     let c = [1u8, 1, 1, 0, 0, 2, 0, 2, 0, 0];
     print::text(b"fold");
     let instance = judged(first, second, message, c);
-    let one = Setting::listed(1);
     let ss = message.ss;
+    ended(instance, ss, c);
+}
+
+fn ended(instance: Instance, ss: [i64; 10], c: [u8; 10]) {
+    let one = Setting::listed(1);
     let mut s = [-333i64; 1];
-    calls::folded(one.setting, &ss, &c, &mut s);
-    calls::tested(one.setting, &[3], &[instance.t], &[instance.d], &s);
+    prover_calls::folded(one.setting, &ss, &c, &mut s);
+    verifier_calls::tested(one.setting, &[3], &[instance.t], &[instance.d], &s);
 }
 
 // The verdict with another last entry of D~ (the honest one is 0) and a C of zeros but its last byte.

@@ -1,7 +1,6 @@
 // The points about settings: the constructor and the house list.
 use settings::Setting;
 use shown::answers;
-use shown::calls;
 use shown::print;
 
 const FOUR_TO_24: u64 = 281474976710656;
@@ -9,15 +8,15 @@ const FOUR_TO_24: u64 = 281474976710656;
 const FOUR_TO_15: u64 = 1073741824;
 
 pub fn points() {
-    calls::asked(1, 1, 1, 2, 100);
-    calls::asked(1, 1, 1, 2, 99);
-    calls::asked(1, 4096, 1, 2, FOUR_TO_24 - 1);
-    calls::asked(1, 4096, 1, 2, FOUR_TO_24);
-    calls::asked(1, 1, 16, 2, FOUR_TO_15);
+    answers::asked(1, 1, 1, 2, 100);
+    answers::asked(1, 1, 1, 2, 99);
+    answers::asked(1, 4096, 1, 2, FOUR_TO_24 - 1);
+    answers::asked(1, 4096, 1, 2, FOUR_TO_24);
+    answers::asked(1, 1, 16, 2, FOUR_TO_15);
     // Growth just holds, and width does not. With one row more growth fails too; with B one less k is 3, and both hold.
-    calls::asked(16, 256, 2, 128, 268435456);
-    calls::asked(16, 257, 2, 128, 268435456);
-    calls::asked(16, 256, 2, 128, 268435455);
+    answers::asked(16, 256, 2, 128, 268435456);
+    answers::asked(16, 257, 2, 128, 268435456);
+    answers::asked(16, 256, 2, 128, 268435455);
 }
 
 // Asks the house list: the setting that it gives, which is zeros beside a refusal, and the answer.

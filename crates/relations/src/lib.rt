@@ -36,18 +36,17 @@ fn relation_refusal(setting: Setting, a: &[u64], t: &[u64], d: &[i64], s: &[i64]
     0
 }
 
-// Whether s-transposed s is d, for an s with short columns: compared by rows, up to the first unequal entry.
-fn products_hold(d: &[i64], s: &[i64], m: usize, cols: usize) -> bool
-    requires { ⌜ (length (now d) ≡ cols * cols) × (length (now s) ≡ m * cols) ⌝ }
-    requires { ⌜ ((j : ℕ) → j < cols → squaredLength m (signed cols (now s)) j ≤ 2 ^ 62) ⌝ }
-    ensures { λ r. ⌜ r ≡ equal cols cols (gram m (signed cols (now (s .entry)))) (signed cols (now (d .entry))) ⌝ }
+// Whether x and y, both square with `cols` columns, are equal: compared by rows, up to the first unequal entry.
+fn products_equal(x: &[i64], y: &[i64], cols: usize) -> bool
+    requires { ⌜ (length (now x) ≡ cols * cols) × (length (now y) ≡ cols * cols) ⌝ }
+    ensures { λ r. ⌜ r ≡ equal cols cols (signed cols (now (x .entry))) (signed cols (now (y .entry))) ⌝ }
 {
     let mut equal = true;
     let mut i: usize = 0;
     'rows: while i < cols {
         let mut j: usize = 0;
         while j < cols {
-            if matrices::column_by_column(s, s, m, cols, i, j) != d[i * cols + j] {
+            if x[i * cols + j] != y[i * cols + j] {
                 equal = false;
                 break 'rows;
             }
@@ -58,17 +57,30 @@ fn products_hold(d: &[i64], s: &[i64], m: usize, cols: usize) -> bool
     equal
 }
 
-// Whether a s is t modulo 2^64: compared by rows, up to the first unequal entry.
-fn commitment_holds(a: &[u64], t: &[u64], s: &[i64], rows: usize, m: usize, cols: usize) -> bool
-    requires { ⌜ (length (now a) ≡ rows * m) × (length (now t) ≡ rows * cols) × (length (now s) ≡ m * cols) ⌝ }
-    ensures { λ r. ⌜ r ≡ equalWords rows cols (product m (unsigned m (now (a .entry))) (signed cols (now (s .entry)))) (unsigned cols (now (t .entry))) ⌝ }
+// Whether s-transposed s is d, for an s with short columns. It is made as a whole, since by rows of s it costs less than
+// entry by entry.
+fn products_hold(d: &[i64], s: &[i64], m: usize, cols: usize) -> bool
+    requires { ⌜ (length (now d) ≡ cols * cols) × (length (now s) ≡ m * cols) × (cols ≤ 16) ⌝ }
+    requires { ⌜ ((j : ℕ) → j < cols → squaredLength m (signed cols (now s)) j ≤ 2 ^ 62) ⌝ }
+    ensures { λ r. ⌜ r ≡ equal cols cols (gram m (signed cols (now (s .entry)))) (signed cols (now (d .entry))) ⌝ }
+{
+    let mut own = [0i64; 256];
+    let size = cols * cols;
+    cross_products::cross_products(s, s, m, cols, &mut own[..size]);
+    products_equal(&own[..size], d, cols)
+}
+
+// Whether x and y, both `rows` by `cols`, are equal: compared by rows, up to the first unequal entry.
+fn words_equal(x: &[u64], y: &[u64], rows: usize, cols: usize) -> bool
+    requires { ⌜ (length (now x) ≡ rows * cols) × (length (now y) ≡ rows * cols) ⌝ }
+    ensures { λ r. ⌜ r ≡ equalWords rows cols (unsigned cols (now (x .entry))) (unsigned cols (now (y .entry))) ⌝ }
 {
     let mut congruent = true;
     let mut i: usize = 0;
     'rows: while i < rows {
         let mut j: usize = 0;
         while j < cols {
-            if matrices::row_by_column(a, s, m, cols, i, j) != t[i * cols + j] {
+            if x[i * cols + j] != y[i * cols + j] {
                 congruent = false;
                 break 'rows;
             }
@@ -77,6 +89,17 @@ fn commitment_holds(a: &[u64], t: &[u64], s: &[i64], rows: usize, m: usize, cols
         i += 1;
     }
     congruent
+}
+
+// Whether a s is t modulo 2^64.
+fn commitment_holds(a: &[u64], t: &[u64], s: &[i64], rows: usize, m: usize, cols: usize) -> bool
+    requires { ⌜ (length (now a) ≡ rows * m) × (length (now t) ≡ rows * cols) × (length (now s) ≡ m * cols) × (rows ≤ 64) × (cols ≤ 16) ⌝ }
+    ensures { λ r. ⌜ r ≡ equalWords rows cols (product m (unsigned m (now (a .entry))) (signed cols (now (s .entry)))) (unsigned cols (now (t .entry))) ⌝ }
+{
+    let mut own = [0u64; 1024];
+    let size = rows * cols;
+    word_products::commitment(a, s, rows, m, cols, &mut own[..size]);
+    words_equal(&own[..size], t, rows, cols)
 }
 
 // Whether t, d and s are in the paper's relation (1) with a.

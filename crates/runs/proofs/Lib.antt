@@ -1,5 +1,1 @@
-pub mod Parts
-pub mod Leaves
-pub mod Challenges
-pub mod Params
-pub mod Steps
+mod Lines

@@ -1,13 +1,14 @@
 -- L as document 01 has it: the greatest of all whole numbers that pass the test. Then the sizes of k and of the powers of b.
-use mathlib.Core.Path.{_≡_, ap, _∙_}
+use mathlib.Core.Path.{_≡_, ap}
 use mathlib.Core.Logic.{⊎-elim}
 use mathlib.Core.Bool.{Bool, not}
 use Prim.Native.Nat.{ℕ, zero, suc, _+_, _-_, _*_, _^_, _≤_, _<_}
 use native.Mathlib.Omega.{arith, by-contra}
-use native.Mathlib.Nat.{pow-zero, pow-suc, one-mul, pow-le-pow-left, pow-le-pow-right, eq-or-lt-of-le, le-of-suc-le-suc, mul-le-mul, le-trans, le-antisymm}
+use native.Mathlib.Nat.{pow-zero, pow-le-pow-left, pow-le-pow-right, eq-or-lt-of-le, le-of-suc-le-suc, mul-le-mul, le-trans, le-antisymm}
 use lib.Dec.{T, leb, leb→le, le→leb, T-not, not-T}
 use lib.Pow.{pow-add}
 use Rattle.integers.proofs.Tests.{cond-ind, le-or-lt}
+use Rattle.bounds.proofs.Powers.{pow-two}
 use Rattle.settings.specs.Settings.{Parameters, places, greatest, LOf, kOf}
 
 -- a test that fails from its first failure on
@@ -48,15 +49,6 @@ greatest-of-all n P falls low high =
 -- there is only one
 pub greatest-unique : (P : ℕ → Bool) (f g : ℕ) → Greatest P f → Greatest P g → f ≡ g
 greatest-unique P f g x y = le-antisymm (y .most f (x .passes)) (x .most g (y .passes))
-
-pub pow-two : (b : ℕ) → b ^ 2 ≡ b * b
-pow-two b = pow-suc b 1 ∙ ap (λ (x : ℕ). x * b) (pow-suc b 0 ∙ ap (λ (x : ℕ). x * b) (pow-zero b) ∙ one-mul b)
-
--- one level more
-pub pow-level : (b l : ℕ) → b ^ (2 * (l + 1)) ≡ b ^ (2 * l) * (b * b)
-pow-level b l =
-    let e : 2 * (l + 1) ≡ 2 * l + 2 = omega arith in
-    ap (λ (x : ℕ). b ^ x) e ∙ pow-add b (2 * l) 2 ∙ ap (λ (x : ℕ). b ^ (2 * l) * x) (pow-two b)
 
 -- k is at most 33, the number of places for powers
 pub k-high : (p : Parameters) → kOf p ≤ 33

@@ -1,9 +1,7 @@
 // The setting of a fold: its limits, the checking constructor and the house list.
 ghost use mathlib.Core.Path.{_≡_};
 ghost use mathlib.Core.Bool.{_&&_};
-ghost use Prim.Native.Nat.{_*_, _^_, _≤_, _<_};
-ghost use lib.Dec.{leb};
-ghost use Rattle.settings.specs.Settings.{within, _to_, limits, LOf, repunit, powersOf, settingRefusal, refusedOf, checkedOf};
+ghost use Rattle.settings.specs.Settings.{within, limits, settingRefusal, refusedOf, checkedOf};
 ghost use Rattle.settings.specs.HouseList.{parameters, listedOf};
 
 // The five numbers of a setting, with what they fix: k digits to an entry, N columns of a digit witness, the powers of b.
@@ -241,8 +239,8 @@ impl Setting {
         if number != 0 {
             return refused(number);
         }
-        let k = level(b, bound) + 2;
-        let powers = powers_of(b, k);
+        let k = bounds::level(b, bound) + 2;
+        let powers = bounds::powers_of(b, k);
         Checked {
             refusal: 0,
             setting: Setting {
@@ -262,7 +260,7 @@ impl Setting {
     pub fn listed(number: usize) -> Checked
         ensures { λ r. ⌜ r ≡ listedOf number ⌝ }
     {
-        if !inside(number as u64, 1, Setting::LISTED as u64) {
+        if !bounds::inside(number as u64, 1, Setting::LISTED as u64) {
             return refused(12);
         }
         let setting = Setting::LIST[number - 1];
@@ -292,86 +290,13 @@ fn refused(number: u8) -> Checked
     }
 }
 
-// Whether x is in the range from `low` to `high`.
-fn inside(x: u64, low: u64, high: u64) -> bool
-    ensures { λ r. ⌜ r ≡ within (low to high) x ⌝ }
-{
-    low <= x && x <= high
-}
-
 // Whether n, m and t are in their ranges.
 fn sizes_inside(n: usize, m: usize, t: usize) -> bool
     ensures { λ r. ⌜ r ≡ (within (limits .n) n && within (limits .m) m && within (limits .t) t) ⌝ }
 {
-    inside(n as u64, Setting::MIN_N as u64, Setting::MAX_N as u64)
-        && inside(m as u64, Setting::MIN_M as u64, Setting::MAX_M as u64)
-        && inside(t as u64, Setting::MIN_T as u64, Setting::MAX_T as u64)
-}
-
-// L, which b and B fix. The comparison is by division, since b^(2(L + 1)) takes up to 93 bits.
-fn level(b: u64, bound: u64) -> usize
-    requires { ⌜ (2 ≤ b) × (b ≤ 65535) × (1 ≤ bound) × (bound ≤ 2 ^ 62) ⌝ }
-    ensures { λ r. ⌜ r ≡ LOf (parameters 0 0 0 b bound) ⌝ }
-{
-    let square = b * b;
-    let mut power: u64 = 1;
-    let mut l: usize = 0;
-    while power <= bound / square {
-        power *= square;
-        l += 1;
-    }
-    l
-}
-
-// The powers of b below b^k, and zeros.
-fn powers_of(b: u64, k: usize) -> [u64; Setting::POWERS]
-    requires { ⌜ (1 ≤ b) × (k ≤ 33) × (b ^ k < 2 ^ 64) ⌝ }
-    ensures { λ r. ⌜ r ≡ powersOf b k ⌝ }
-{
-    let mut powers = [0u64; Setting::POWERS];
-    let mut power: u64 = 1;
-    let mut p: usize = 0;
-    while p < k {
-        powers[p] = power;
-        power *= b;
-        p += 1;
-    }
-    powers
-}
-
-// 1 + b + .. + b^(k - 1).
-fn repunit_of(b: u64, k: usize) -> u64
-    requires { ⌜ (2 ≤ b) × (k ≤ 33) × (b ^ k < 2 ^ 64) ⌝ }
-    ensures { λ r. ⌜ r ≡ repunit b k ⌝ }
-{
-    let mut r: u64 = 0;
-    let mut p: usize = 0;
-    while p < k {
-        r = r * b + 1;
-        p += 1;
-    }
-    r
-}
-
-// Growth: (N h)^2 m at most B. After refusals 1 to 4 the product stays below 2^60.
-fn grows_within(columns: usize, h: u64, m: usize, bound: u64) -> bool
-    requires { ⌜ (columns ≤ 512) × (h ≤ 32767) × (m ≤ 4096) ⌝ }
-    ensures { λ r. ⌜ r ≡ leb (columns * h * (columns * h) * m) bound ⌝ }
-{
-    let x = (columns as u64) * h;
-    x * x * (m as u64) <= bound
-}
-
-// Width: H r^2 at most the limit, for the repunit r. The product takes up to 134 bits, so it is compared by division:
-// where r^2 alone passes the limit H r^2 does, since H is at least 1, and elsewhere r^2 divides the limit.
-fn wide_within(m: usize, h: u64, r: u64) -> bool
-    requires { ⌜ (1 ≤ h) × (h ≤ 32767) × (1 ≤ m) × (m ≤ 4096) × (1 ≤ r) ⌝ }
-    ensures { λ s. ⌜ s ≡ leb (h * h * m * (r * r)) (limits .width) ⌝ }
-{
-    if Setting::MAX_WIDTH / r < r {
-        return false;
-    }
-    h * h * (m as u64) <= Setting::MAX_WIDTH / (r * r)
+    bounds::inside(n as u64, Setting::MIN_N as u64, Setting::MAX_N as u64)
+        && bounds::inside(m as u64, Setting::MIN_M as u64, Setting::MAX_M as u64)
+        && bounds::inside(t as u64, Setting::MIN_T as u64, Setting::MAX_T as u64)
 }
 
 // The first of the refusals 1 to 6 that applies, or 0.
@@ -381,22 +306,22 @@ fn refusal(n: usize, m: usize, t: usize, b: u64, bound: u64) -> u8
     if !sizes_inside(n, m, t) {
         return 1;
     }
-    if !inside(b, Setting::MIN_B, Setting::MAX_B) {
+    if !bounds::inside(b, Setting::MIN_B, Setting::MAX_B) {
         return 2;
     }
-    if !inside(bound, Setting::MIN_BOUND, Setting::MAX_BOUND) {
+    if !bounds::inside(bound, Setting::MIN_BOUND, Setting::MAX_BOUND) {
         return 3;
     }
-    let k = level(b, bound) + 2;
+    let k = bounds::level(b, bound) + 2;
     let columns = 2 * k * t;
     if Setting::MAX_COLUMNS < columns {
         return 4;
     }
     let h = b / 2;
-    if !grows_within(columns, h, m, bound) {
+    if !bounds::grows_within(columns, h, m, bound) {
         return 5;
     }
-    if !wide_within(m, h, repunit_of(b, k)) {
+    if !bounds::wide_within(m, h, bounds::repunit_of(b, k), Setting::MAX_WIDTH) {
         return 6;
     }
     0

@@ -4,6 +4,7 @@ use lova::Answer;
 use lova::Membership;
 use lova::Verdict;
 use settings::Checked;
+use settings::Setting;
 
 // The five numbers of a setting.
 pub fn five(n: usize, m: usize, t: usize, b: u64, bound: u64) {
@@ -28,6 +29,12 @@ pub fn checked(given: Checked) {
         print::number(b", N = ", given.setting.columns as u64);
     }
     print::end();
+}
+
+// Asks for a setting: the five numbers and the answer.
+pub fn asked(n: usize, m: usize, t: usize, b: u64, bound: u64) {
+    five(n, m, t, b, bound);
+    checked(Setting::new(n, m, t, b, bound));
 }
 
 // The answer of commit, join, message or folded witness.

@@ -1,5 +1,4 @@
-// How the programs show what the library answers: an operation is run, and its answer and outputs are written. No
-// contract can say what is written, so a function that only writes promises that it is safe and ends.
+// How the programs show what the library answers: how answers and outputs are written. No contract can say what is
+// written, so these functions promise only that they are safe and end.
 pub mod answers;
-pub mod calls;
 pub mod print;

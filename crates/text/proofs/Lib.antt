@@ -1,6 +1,5 @@
 pub mod Bytes
 pub mod Fields
-pub mod Readers
 pub mod Lines
 pub mod Records
 pub mod Examples

@@ -6,8 +6,6 @@ use Prim.Native.Nat.{ℕ, zero, suc}
 use lib.Dec.{eqb}
 use lib.IntN.{ℤ}
 use Rattle.numerals.specs.Numerals.{readUnsigned, readSigned, unsignedOf, signedOf}
-use Rattle.text.specs.declared.Entry.{Entry}
-use Rattle.text.specs.declared.Entry.the-variants.{Byte, Bad}
 
 -- x put in front of the first part
 unfoldable pub onto : ℕ → List (List ℕ) → List (List ℕ)
@@ -68,11 +66,6 @@ readI64 f = signedOf (readSigned f)
 -- a field as the byte of a ternary entry: `0` is 0, `1` is 1 and `-1` is 2
 unfoldable pub readTernary : List ℕ → Option ℕ
 readTernary f = cond (same f (48 ∷ [])) (some 0) (cond (same f (49 ∷ [])) (some 1) (cond (same f (45 ∷ 49 ∷ [])) (some 2) none))
-
--- the byte that was read, if any
-unfoldable pub byteOf : Entry → Option ℕ
-byteOf Bad = none
-byteOf (Byte x) = some x
 
 -- the values, where the answer is yes
 unfoldable pub answerOf : {A : Type 0} → Bool → List A → Option (List A)

@@ -1,32 +1,78 @@
 // The product A S modulo 2^64 of a matrix of words and a witness, stored by rows.
 ghost use mathlib.Core.Path.{_≡_};
-ghost use Prim.Native.Nat.{_*_};
+ghost use Prim.Native.Nat.{_+_, _*_, _<_, _≤_};
 ghost use lib.ListN.{length};
-ghost use Rattle.integers.specs.Lists.{build};
 ghost use Rattle.integers.specs.Residues.{word};
 ghost use Rattle.matrices.specs.Matrices.{product};
 ghost use Rattle.matrices.specs.Tables.{table, signed, unsigned};
-ghost use Rattle.word_rows.specs.Rows.{rowTimes};
+ghost use Rattle.word_rows.specs.Rows.{rowTimes, Added};
 
-// The row x, of m words, times s, by four rows of s a pass and the last ones one by one.
-fn commitment_row(x: &[u64], s: &[i64], m: usize, cols: usize, row: &mut [u64])
-    requires { ⌜ (length (now x) ≡ m) × (length (now s) ≡ m * cols) × (length (now row) ≡ cols) ⌝ }
-    ensures { λ _. ⌜ now (row .exit) ≡ build cols (λ j. word (rowTimes m (now (x .entry)) (signed cols (now (s .entry))) j)) ⌝ }
+// Adds the row x times s to `row`, four rows of s a pass while four are left, and answers how many rows it took. A loop that
+// chose between four rows and one in every pass would be slower.
+fn add_fours(x: &[u64], s: &[i64], cols: usize, row: &mut [u64]) -> usize
+    requires { ⌜ (length (now s) ≡ length (now x) * cols) × (length (now row) ≡ cols) ⌝ }
+    ensures { λ r. ⌜ (r ≤ length (now (x .entry))) × Added (rowTimes r (now (x .entry)) (signed cols (now (s .entry)))) 0 (now (row .entry)) (now (row .exit)) ⌝ }
 {
-    word_rows::clear_row(row);
     let mut k: usize = 0;
-    while k < m {
-        let start = k * cols;
-        if m - k >= 4 {
-            let end = start + 4 * cols;
-            word_rows::add_four_rows(&x[k..k + 4], &s[start..end], cols, row);
-            k += 4;
-        } else {
-            let end = start + cols;
-            word_rows::add_row(x[k], &s[start..end], row);
-            k += 1;
-        }
+    let mut start: usize = 0;
+    while x.len() - k >= 4 {
+        let end = start + 4 * cols;
+        word_rows::add_four_rows(&x[k..k + 4], &s[start..end], cols, row);
+        start = end;
+        k += 4;
     }
+    k
+}
+
+// Adds the row x times s to `row`: fours first, and the last rows one by one.
+fn add_rows(x: &[u64], s: &[i64], cols: usize, row: &mut [u64])
+    requires { ⌜ (length (now s) ≡ length (now x) * cols) × (length (now row) ≡ cols) ⌝ }
+    ensures { λ _. ⌜ Added (rowTimes (length (now (x .entry))) (now (x .entry)) (signed cols (now (s .entry)))) 0 (now (row .entry)) (now (row .exit)) ⌝ }
+{
+    let mut k = add_fours(x, s, cols, row);
+    while k < x.len() {
+        let start = k * cols;
+        let end = start + cols;
+        word_rows::add_row(x[k], &s[start..end], row);
+        k += 1;
+    }
+}
+
+// Takes `out` from the product of the first `base` columns of a and rows of s to that of the first base + len. Every row of a
+// meets the same `len` rows of s, so that these stay in the cache.
+fn add_block(
+    a: &[u64],
+    s: &[i64],
+    n: usize,
+    m: usize,
+    cols: usize,
+    base: usize,
+    len: usize,
+    out: &mut [u64],
+)
+    requires { ⌜ (length (now a) ≡ n * m) × (length (now s) ≡ m * cols) × (base + len ≤ m) ⌝ }
+    requires { ⌜ now out ≡ table n cols (λ i j. word (product base (unsigned m (now a)) (signed cols (now s)) i j)) ⌝ }
+    ensures { λ _. ⌜ now (out .exit) ≡ table n cols (λ i j. word (product (base + len) (unsigned m (now (a .entry))) (signed cols (now (s .entry))) i j)) ⌝ }
+{
+    let top = base * cols;
+    let bottom = top + len * cols;
+    let mut i: usize = 0;
+    while i < n {
+        let from = i * m + base;
+        let to = from + len;
+        let start = i * cols;
+        let end = start + cols;
+        add_rows(&a[from..to], &s[top..bottom], cols, &mut out[start..end]);
+        i += 1;
+    }
+}
+
+// How many of the rows of s that are left the next block takes: 128 of the widest fill half a megabyte of the cache.
+fn block_length(left: usize) -> usize
+    requires { ⌜ 0 < left ⌝ }
+    ensures { λ r. ⌜ (0 < r) × (r ≤ left) ⌝ }
+{
+    if left < 128 { left } else { 128 }
 }
 
 // a times s modulo 2^64, as T~ is A S~: a has n rows and m columns, s has m rows and `cols` columns.
@@ -34,13 +80,11 @@ pub fn commitment(a: &[u64], s: &[i64], n: usize, m: usize, cols: usize, out: &m
     requires { ⌜ (length (now a) ≡ n * m) × (length (now s) ≡ m * cols) × (length (now out) ≡ n * cols) ⌝ }
     ensures { λ _. ⌜ now (out .exit) ≡ table n cols (λ i j. word (product m (unsigned m (now (a .entry))) (signed cols (now (s .entry))) i j)) ⌝ }
 {
-    let mut i: usize = 0;
-    while i < n {
-        let from = i * m;
-        let to = from + m;
-        let start = i * cols;
-        let end = start + cols;
-        commitment_row(&a[from..to], s, m, cols, &mut out[start..end]);
-        i += 1;
+    word_rows::clear_row(out);
+    let mut base: usize = 0;
+    while base < m {
+        let len = block_length(m - base);
+        add_block(a, s, n, m, cols, base, len, out);
+        base += len;
     }
 }

@@ -2,13 +2,13 @@
 use mathlib.Core.Path.{_≡_, refl, sym, _∙_, ap, ap₂}
 use mathlib.Core.Logic.{⊎-elim}
 use mathlib.Core.List.{List, [], _∷_}
-use Prim.Native.Nat.{ℕ, _+_, _*_, _-_, _<_, _≤_}
+use Prim.Native.Nat.{ℕ, _+_, _*_, _-_, _^_, _<_, _≤_}
 use native.Mathlib.Omega.{arith}
 use native.Mathlib.Nat.{zero-mul, one-mul, add-mul}
 use lib.Arith.{digits-lt}
 use lib.ListN.{length, getD, set, take, drop, length-set}
 use lib.Seq.{getD-set-same, getD-set-other, getD-take, getD-drop}
-use lib.IntN.{ℤ, pos, _+ℤ_, _*ℤ_, +ℤ-assoc, +ℤ-idl}
+use lib.IntN.{ℤ, pos, _+ℤ_, _*ℤ_, +ℤ-assoc, +ℤ-idl, +ℤ-idr}
 use mir.Syntax.{w64}
 use mir.Val.{SFits, toZ, ofZ}
 use mir.ValLaws.{toZ-ofZ}
@@ -18,7 +18,7 @@ use Rattle.integers.specs.Residues.{residue, word}
 use Rattle.integers.proofs.Tests.{le-or-lt}
 use Rattle.integers.proofs.Lists.{length-build, getD-build, is-build, build-cong}
 use Rattle.integers.proofs.Sums.{sum-cong, sum-step, sum-split}
-use Rattle.integers.proofs.Residues.{word-on}
+use Rattle.integers.proofs.Residues.{residue-small, word-on}
 use Rattle.matrices.specs.Matrices.{Matrix, product}
 use Rattle.matrices.specs.Tables.{entries, unsigned, signed}
 use Rattle.word_rows.specs.Rows.{rowTimes, Added}
@@ -57,6 +57,28 @@ added-on n g f h before after e w k = is-build n (λ j. word (h j)) 0 after (w .
     size : length before ≡ n
     size = ap length e ∙ length-build n (λ j. word (g j))
 
+-- nothing is added where f is 0
+pub added-nothing : (f : ℕ → ℤ) (row : List ℕ) → ((j : ℕ) → getD row j 0 < 2 ^ 64) → ((j : ℕ) → f j ≡ pos 0) → Added f 0 row row
+added-nothing f row small none = record {
+  within = omega arith;
+  long = refl;
+  done = λ j h l. sym (ap (λ (z : ℤ). word (pos (getD row j 0) +ℤ z)) (none j) ∙ ap word (+ℤ-idr (pos (getD row j 0))) ∙ residue-small (2 ^ 64) (getD row j 0) (small j));
+  rest = λ j h. refl;
+}
+
+-- f is added, and g to what that left: h, which is f + g, is added
+pub added-both : (f g h : ℕ → ℤ) (first second third : List ℕ) → Added f 0 first second → Added g 0 second third
+    → ((j : ℕ) → j < length first → h j ≡ f j +ℤ g j) → Added h 0 first third
+added-both f g h first second third v w k = record {
+  within = omega arith;
+  long = w .long ∙ v .long;
+  done = λ j l m. w .done j l (omega (arith, v .long))
+      ∙ ap (λ (y : ℕ). word (pos y +ℤ g j)) (v .done j l m)
+      ∙ word-on (pos (getD first j 0) +ℤ f j) (g j)
+      ∙ ap word (+ℤ-assoc (pos (getD first j 0)) (f j) (g j) ∙ ap (λ (z : ℤ). pos (getD first j 0) +ℤ z) (sym (k j m)));
+  rest = λ j l. w .rest j l ∙ v .rest j l;
+}
+
 -- x y added to b by the machine, where the signed word y is read from a list
 pub read-on : (b x : ℕ) (y : ℤ) {r : ℕ} → SFits w64 y → r ≡ word (pos b +ℤ pos x *ℤ toZ w64 (ofZ w64 y)) → r ≡ word (pos b +ℤ pos x *ℤ y)
 read-on b x y f e = e ∙ ap (λ (z : ℤ). word (pos b +ℤ pos x *ℤ z)) (toZ-ofZ w64 y f)
@@ -94,15 +116,31 @@ module _ {A : Type 0} (value : A → ℤ) (d : A) (cols : ℕ) (x : List ℕ) (y
   times-one = sum-step k (λ k. pos (getD x k 0) *ℤ entries value d cols ys k j)
       ∙ ap (λ (v : A). rowTimes k x (entries value d cols ys) j +ℤ pos (getD x k 0) *ℤ value v) (sym (part-at d (k * cols) cols ys j h))
 
-  -- p words and rows more, each lent as a part
-  pub times-more : (p : ℕ) → rowTimes (k + p) x (entries value d cols ys) j
+  -- p words from word number `from` on times the p rows from row k on, each lent as a part
+  part-times : (p from start : ℕ) → start ≡ k * cols
+      → rowTimes p (take (from + p - from) (drop from x)) (entries value d cols (take (start + p * cols - start) (drop start ys))) j
+      ≡ sum p (λ q. pos (getD x (from + q) 0) *ℤ entries value d cols ys (k + q) j)
+  part-times p from start s = sum-cong p _ _ (λ q l.
+      let e : start + (q * cols + j) ≡ (k + q) * cols + j = omega (arith, add-mul k q cols) in
+      ap₂ (λ (u : ℕ) (v : A). pos u *ℤ value v) (part-at 0 from p x q l)
+      (part-at d start (p * cols) ys (q * cols + j) (digits-lt l h) ∙ ap (λ (n : ℕ). getD ys n d) e))
+
+  -- p words and rows more
+  pub times-more : (p start : ℕ) → start ≡ k * cols → rowTimes (k + p) x (entries value d cols ys) j
       ≡ rowTimes k x (entries value d cols ys) j
-      +ℤ rowTimes p (take (k + p - k) (drop k x)) (entries value d cols (take (k * cols + p * cols - k * cols) (drop (k * cols) ys))) j
-  times-more p = sum-split k p (λ k. pos (getD x k 0) *ℤ entries value d cols ys k j)
-      ∙ ap (λ (z : ℤ). rowTimes k x (entries value d cols ys) j +ℤ z) (sum-cong p _ _ (λ q l.
-      let e : (k + q) * cols + j ≡ k * cols + (q * cols + j) = omega (arith, add-mul k q cols) in
-      sym (ap₂ (λ (u : ℕ) (v : A). pos u *ℤ value v) (part-at 0 k p x q l)
-      (part-at d (k * cols) (p * cols) ys (q * cols + j) (digits-lt l h) ∙ ap (λ (n : ℕ). getD ys n d) (sym e)))))
+      +ℤ rowTimes p (take (k + p - k) (drop k x)) (entries value d cols (take (start + p * cols - start) (drop start ys))) j
+  times-more p start s = sum-split k p (λ k. pos (getD x k 0) *ℤ entries value d cols ys k j)
+      ∙ ap (λ (z : ℤ). rowTimes k x (entries value d cols ys) j +ℤ z) (sym (part-times p k start s))
+
+  -- the same where x is row i of a matrix of m columns
+  pub times-block : (m i p : ℕ) → product (k + p) (unsigned m x) (entries value d cols ys) i j
+      ≡ product k (unsigned m x) (entries value d cols ys) i j
+      +ℤ rowTimes p (take (i * m + k + p - (i * m + k)) (drop (i * m + k) x)) (entries value d cols (take (k * cols + p * cols - k * cols) (drop (k * cols) ys))) j
+  times-block m i p = sum-split k p (λ k. pos (getD x (i * m + k) 0) *ℤ entries value d cols ys k j)
+      ∙ ap (λ (z : ℤ). product k (unsigned m x) (entries value d cols ys) i j +ℤ z) (sym (part-times p (i * m + k) (k * cols) refl
+      ∙ sum-cong p _ _ (λ q l.
+      let e : i * m + k + q ≡ i * m + (k + q) = omega arith in
+      ap (λ (n : ℕ). pos (getD x n 0) *ℤ entries value d cols ys (k + q) j) e)))
 
 -- four products, of words with what stands in column j of four rows, added to b one after the other
 pub times-four : (cols j b x₀ x₁ x₂ x₃ : ℕ) (y : List ℤ) {p q r s : ℕ} → p ≡ word (pos b +ℤ pos x₀ *ℤ getD y j (pos 0))

@@ -8,9 +8,9 @@ use native.Mathlib.Nat.{add-mul}
 use lib.IntN.{ℤ}
 use lib.ListN.{length, take}
 use lib.Seq.{length-take-le}
+use Rattle.integers.proofs.Lists.{two-parts}
 use Rattle.digits.specs.Digits.{rowDigits}
 use Rattle.digits.proofs.Rows.{length-rowDigits, rowDigits-append}
-use Rattle.digit_witnesses.proofs.DigitRows.{two-parts}
 use Rattle.digit_witnesses.proofs.write_both.Statement.{statement}
 use Rattle.digit_witnesses.proofs.write_both.Tie as tie
 

@@ -1,5 +1,4 @@
 -- `digits::take_digit` meets its contract: each way out is one case of the rule.
-use borrow.Author.Needs.{needs}
 use mathlib.Core.Path.{sym, _∙_, ap, subst}
 use Prim.Native.Nat.{_+_, _-_, _/_, _%_, _<_, _^_}
 use native.Mathlib.Omega.{arith}
@@ -14,13 +13,13 @@ use Rattle.digits.proofs.take_digit.Statement.{statement}
 use Rattle.digits.proofs.take_digit.Tie as tie
 
 rem-d : tie.Need-rem-d
-rem-d c = search needs
+rem-d c = omega arith
 
 div-q : tie.Need-div-q
-div-q c = search needs
+div-q c = omega arith
 
 cast-t7 : tie.Need-cast-t7
-cast-t7 c = search needs
+cast-t7 c = omega arith
 
 returns : tie.Need-returns
 returns c =
@@ -33,7 +32,7 @@ sub-t5 : tie.Need-sub-t5
 sub-t5 c = omega (arith, mod-lt (c .before .args .w) {m = c .before .args .b} (omega arith))
 
 cast-t8 : tie.Need-cast-t8
-cast-t8 c = search needs
+cast-t8 c = omega arith
 
 -- b − d, the size of the digit d − b where d > h, is below 2^63
 small : (c : tie.Else1) → c .before .args .b - c .before .args .w % c .before .args .b < 2 ^ 63

@@ -26,13 +26,13 @@ abbrev μ-loop : tie.MeasureT-loop
 μ-loop x b out₀ w₀ p₀ out w p = length out₀ - p
 
 size-requires : tie.Need-size-requires Inv-loop μ-loop
-size-requires c κs = search needs
+size-requires c κs = tt
 
 loop-holds : tie.Need-loop-holds Inv-loop μ-loop
 loop-holds c = (c .size .ensures ∙ sym (rest-none (c .before .args .b) _), filled-none _ _ _ _ refl)
 
 take-digit-requires : tie.Need-take-digit-requires Inv-loop μ-loop
-take-digit-requires c κs = search needs
+take-digit-requires c κs = omega arith
 
 -- the digit is at most b/2 in size
 small : (c : tie.After-take-digit Inv-loop μ-loop) → natAbs (c .take-digit .result .digit) < 2 ^ 63
@@ -42,16 +42,16 @@ sub-out : tie.Need-sub-out Inv-loop μ-loop
 sub-out c = minus-fits (c .before .before .take-digit .result .digit) (small (c .before .before))
 
 mul-t19 : tie.Need-mul-t19 Inv-loop μ-loop
-mul-t19 c = search needs
+mul-t19 c = omega arith
 
 slice-set-from-out : tie.Need-slice-set-from-out Inv-loop μ-loop
-slice-set-from-out c = search needs
+slice-set-from-out c = omega arith
 
 add-p : tie.Need-add-p Inv-loop μ-loop
-add-p c = search needs
+add-p c = omega arith
 
 loop-less : tie.Need-loop-less Inv-loop μ-loop
-loop-less c = search needs
+loop-less c = omega arith
 
 -- what is stored at p is digit p of the entry
 written : (c : tie.Joined1 Inv-loop μ-loop)

@@ -4,7 +4,7 @@ use Prim.Native.Nat.{_-_, _*_, _≤_}
 use native.Mathlib.Omega.{arith}
 use lib.ListN.{length}
 use lib.Seq.{length-take-le}
-use Rattle.runs.specs.Lent.{Lent, Roomy}
+use Rattle.states.specs.Lent.{Lent, Roomy}
 use Rattle.feeds.specs.Feeds.{Steady}
 use borrow.Author.Needs.{needs}
 use Rattle.driver.proofs.run.Statement.{statement}

@@ -1,5 +1,4 @@
 -- `lova_c::lova_fold_witness` meets its contract: the operation's answer and outputs are passed on.
-use borrow.Author.Needs.{needs}
 use Rattle.settings.specs.Settings.{Parameters}
 use Rattle.lova.specs.Witness.{witness}
 use Rattle.lova_c.proofs.Passing.{passed}
@@ -7,16 +6,16 @@ use Rattle.lova_c.proofs.lova_fold_witness.Statement.{statement}
 use Rattle.lova_c.proofs.lova_fold_witness.Tie as tie
 
 setting-of-requires : tie.Need-setting-of-requires
-setting-of-requires c κs = search needs
+setting-of-requires c κs = tt
 
 fold-witness-requires : tie.Need-fold-witness-requires
-fold-witness-requires c κs = search needs
+fold-witness-requires c κs = tt
 
 code-of-answer-requires : tie.Need-code-of-answer-requires
-code-of-answer-requires c κs = search needs
+code-of-answer-requires c κs = tt
 
 same-length : tie.Need-same-length
-same-length c = search needs
+same-length c = c .before .s .given
 
 returns : tie.Need-returns
 returns c =

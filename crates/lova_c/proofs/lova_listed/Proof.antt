@@ -1,14 +1,13 @@
 -- `lova_c::lova_listed` meets its contract: 12, 7, or the row's numbers are written.
-use borrow.Author.Needs.{needs}
 use mathlib.Core.Path.{_∙_, ap}
 use Rattle.settings.specs.declared.Checked.{Checked}
-use Rattle.lova_c.specs.Given.{fiveOf}
+use Rattle.codes.specs.Given.{fiveOf}
 use Rattle.lova_c.proofs.Giving.{out-refused, out-seven, out-given}
 use Rattle.lova_c.proofs.lova_listed.Statement.{statement}
 use Rattle.lova_c.proofs.lova_listed.Tie as tie
 
 listed-requires : tie.Need-listed-requires
-listed-requires c κs = search needs
+listed-requires c κs = tt
 
 returns : tie.Need-returns
 returns c =
@@ -23,10 +22,10 @@ returns-2 c =
     out-seven _ (n .listed .result) 5 _ (s .args .out .now) (n .listed .ensures) (c .before .if1 .left) (c .if2 .taken)
 
 write-five-requires : tie.Need-write-five-requires
-write-five-requires c κs = search needs
+write-five-requires c κs = c .before .if2 .left
 
 same-length : tie.Need-same-length
-same-length c = search needs
+same-length c = c .before .out .given
 
 returns-3 : tie.Need-returns-3
 returns-3 c =

@@ -7,25 +7,25 @@ use Rattle.lova_c.proofs.lova_message.Statement.{statement}
 use Rattle.lova_c.proofs.lova_message.Tie as tie
 
 setting-of-requires : tie.Need-setting-of-requires
-setting-of-requires c κs = search needs
+setting-of-requires c κs = tt
 
 message-requires : tie.Need-message-requires
-message-requires c κs = search needs
+message-requires c κs = tt
 
 code-of-answer-requires : tie.Need-code-of-answer-requires
-code-of-answer-requires c κs = search needs
+code-of-answer-requires c κs = tt
 
 same-length : tie.Need-same-length
 same-length c = search needs
 
 same-length-2 : tie.Need-same-length-2
-same-length-2 c = search needs
+same-length-2 c = c .before .before .before .before .tt .given
 
 same-length-3 : tie.Need-same-length-3
 same-length-3 c = search needs
 
 same-length-4 : tie.Need-same-length-4
-same-length-4 c = search needs
+same-length-4 c = c .before .ss .given
 
 returns : tie.Need-returns
 returns c =

@@ -2,13 +2,13 @@
 use borrow.Author.Needs.{needs}
 use mathlib.Core.Path.{_∙_, ap}
 use Rattle.settings.specs.declared.Checked.{Checked}
-use Rattle.lova_c.specs.Given.{workedOut}
+use Rattle.codes.specs.Given.{workedOut}
 use Rattle.lova_c.proofs.Giving.{powers-long, out-refused, out-seven, out-given}
 use Rattle.lova_c.proofs.lova_setting.Statement.{statement}
 use Rattle.lova_c.proofs.lova_setting.Tie as tie
 
 new-requires : tie.Need-new-requires
-new-requires c κs = search needs
+new-requires c κs = tt
 
 returns : tie.Need-returns
 returns c =
@@ -31,7 +31,7 @@ write-worked-out-requires c κs =
     (c .before .if2 .left, powers-long _ (n .new .result) (n .new .ensures) (c .before .before .if1 .left))
 
 same-length : tie.Need-same-length
-same-length c = search needs
+same-length c = c .before .out .given
 
 returns-3 : tie.Need-returns-3
 returns-3 c =

@@ -1,20 +1,19 @@
 -- `lova_c::lova_test_relation` meets its contract: the operation's answer is passed on.
-use borrow.Author.Needs.{needs}
 use mathlib.Core.Path.{_∙_, ap}
 use Rattle.settings.specs.Settings.{Parameters}
 use Rattle.lova.specs.Relation.{relation}
-use Rattle.lova_c.specs.Codes.{codeOf}
+use Rattle.codes.specs.Codes.{codeOf}
 use Rattle.lova_c.proofs.lova_test_relation.Statement.{statement}
 use Rattle.lova_c.proofs.lova_test_relation.Tie as tie
 
 setting-of-requires : tie.Need-setting-of-requires
-setting-of-requires c κs = search needs
+setting-of-requires c κs = tt
 
 test-relation-requires : tie.Need-test-relation-requires
-test-relation-requires c κs = search needs
+test-relation-requires c κs = tt
 
 code-of-membership-requires : tie.Need-code-of-membership-requires
-code-of-membership-requires c κs = search needs
+code-of-membership-requires c κs = tt
 
 returns : tie.Need-returns
 returns c =

@@ -1,5 +1,4 @@
 -- `lova_c::lova_verify` meets its contract: the operation's answer and outputs are passed on.
-use borrow.Author.Needs.{needs}
 use Rattle.settings.specs.Settings.{Parameters}
 use Rattle.lova.specs.Verdict.{verdict}
 use Rattle.lova_c.proofs.Passing.{passed}
@@ -7,19 +6,19 @@ use Rattle.lova_c.proofs.lova_verify.Statement.{statement}
 use Rattle.lova_c.proofs.lova_verify.Tie as tie
 
 setting-of-requires : tie.Need-setting-of-requires
-setting-of-requires c κs = search needs
+setting-of-requires c κs = tt
 
 verify-requires : tie.Need-verify-requires
-verify-requires c κs = search needs
+verify-requires c κs = tt
 
 code-of-verdict-requires : tie.Need-code-of-verdict-requires
-code-of-verdict-requires c κs = search needs
+code-of-verdict-requires c κs = tt
 
 same-length : tie.Need-same-length
-same-length c = search needs
+same-length c = c .before .before .before .t-out .given
 
 same-length-2 : tie.Need-same-length-2
-same-length-2 c = search needs
+same-length-2 c = c .before .d-out .given
 
 returns : tie.Need-returns
 returns c =

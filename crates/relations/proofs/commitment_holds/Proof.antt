@@ -1,144 +1,77 @@
--- `relations::commitment_holds` meets its contract: the entries before (i, j) are equal modulo 2^64.
-use borrow.Author.Needs.{needs}
-use mathlib.Core.Path.{_≡_, refl, sym, _∙_}
-use mathlib.Core.Logic.{_↔_}
-use mathlib.Core.Bool.{true}
-use mathlib.Core.List.{List}
-use Prim.Native.Nat.{ℕ, _+_, _-_, _*_, _^_, _<_}
+-- `relations::commitment_holds` meets its contract: a s is made in the front of an array, and compared with t.
+use mathlib.Core.Path.{_≡_, sym, _∙_}
+use mathlib.Core.List.{List, _++_}
+use Prim.Native.Nat.{ℕ, _*_, _≤_}
 use native.Mathlib.Omega.{arith}
-use lib.Arith.{digits-lt}
-use lib.Dec.{eqb}
-use lib.IntN.{ℤ, pos}
-use lib.ListN.{getD}
-use Rattle.integers.specs.Residues.{word}
-use Rattle.integers.proofs.Residues.{residue-small}
-use Rattle.matrices.proofs.Tables.{row-within}
+use lib.ListN.{length, drop, replicate, length-replicate}
 use Rattle.matrices.specs.Matrices.{product}
-use Rattle.matrices.specs.Tables.{unsigned, signed}
-use Rattle.lova.proofs.Tests.{eqb-iff}
-use Rattle.lova.proofs.Comparisons.{EqualBefore, equal-none, equal-more, equal-row, equal-all, unequal-at}
+use Rattle.matrices.specs.Tables.{signed, unsigned}
+use Rattle.relations.proofs.Tables.{room, front, written, words-front}
 use Rattle.relations.proofs.commitment_holds.Statement.{statement}
 use Rattle.relations.proofs.commitment_holds.Tie as tie
 
--- the two matrices that are compared
-abbrev left : List ℕ → List ℤ → ℕ → ℕ → ℕ → ℕ → ℕ
-left a s m cols i j = word (product m (unsigned m a) (signed cols s) i j)
+-- the function's entry, and the array's room for the product
+abbrev start : tie.After-shared-slice-known2 → tie.Start
+start c = c .before .before
 
-abbrev right : List ℕ → ℕ → ℕ → ℕ → ℕ
-right t cols i j = word (unsigned cols t i j)
+fits : (c : tie.After-shared-slice-known2) → start c .args .rows * start c .args .cols ≤ 1024
+fits c = room {r = 64} {c = 16} (start c .pre .3) (start c .pre .4)
 
-abbrev Inv-loop : tie.InvT-loop
-Inv-loop a t s rows m cols congruent₀ i j₀ congruent j = (congruent ≡ true) × EqualBefore cols (left a s m cols) (right t cols) i j
+mul-size : tie.Need-mul-size
+mul-size c = omega (arith, fits c)
 
-abbrev μ-loop : tie.MeasureT-loop
-μ-loop a t s rows m cols congruent₀ i j₀ congruent j = cols - j
+array-borrow-prefix-own : tie.Need-array-borrow-prefix-own
+array-borrow-prefix-own c = fits c
 
-abbrev Inv-rows : tie.InvT-rows
-Inv-rows a t s rows m cols congruent₀ i₀ congruent i = (congruent ≡ true) × EqualBefore cols (left a s m cols) (right t cols) i 0
+slice-aggregate-commitment : tie.Need-slice-aggregate-commitment
+slice-aggregate-commitment c = let a = start (c .before) .args in sym (front (a .rows * a .cols) (replicate 1024 0) 1024 (length-replicate {A = ℕ} 1024 0) (fits (c .before)))
 
-abbrev μ-rows : tie.MeasureT-rows
-μ-rows a t s rows m cols congruent₀ i₀ congruent i = rows - i
+commitment-requires : tie.Need-commitment-requires
+commitment-requires c κs =
+    let s = start (c .before) in
+    (s .pre .0, s .pre .2, front (s .args .rows * s .args .cols) (replicate 1024 0) 1024 (length-replicate {A = ℕ} 1024 0) (fits (c .before)))
 
-rows-holds : tie.Need-rows-holds Inv-loop μ-loop Inv-rows μ-rows
-rows-holds c = (refl, equal-none _ _ _)
+-- what was made, and the array that it is in
+abbrev made : tie.After-commitment → List ℕ
+made c = c .commitment .last .1 .1 .1 .1 .1 .0
 
-loop-holds : tie.Need-loop-holds Inv-loop μ-loop Inv-rows μ-rows
-loop-holds c = c .before .rows .inv
+long : (c : tie.After-commitment) → let a = start (c .before .before) .args in length (made c ++ drop (a .rows * a .cols) (replicate 1024 0)) ≡ 1024
+long c =
+    let a = start (c .before .before) .args in
+    written (a .rows * a .cols) (replicate 1024 0) (made c) (c .commitment .kept .1 .1 .1 .1 .1 .0) ∙ length-replicate {A = ℕ} 1024 0
 
--- the entry of t that a turn reads is within t
-cell : (c : tie.In-loop Inv-loop μ-loop Inv-rows μ-rows) →
-    let a = c .before .before .before .before .before .before .args in
-    c .before .before .before .rows .i * a .cols + c .before .loop .j < a .rows * a .cols
-cell c = digits-lt (c .before .before .rows-test .taken) (c .loop-test .taken)
+array-share-prefix-own : tie.Need-array-share-prefix-own
+array-share-prefix-own c = omega (arith, fits (c .before .before .before), long (c .before))
 
-row-by-column-requires : tie.Need-row-by-column-requires Inv-loop μ-loop Inv-rows μ-rows
-row-by-column-requires c κs =
-    let s = c .before .before .before .before .before .before in
-    let row = row-within (s .args .rows) (s .args .m) (c .before .before .before .rows .i) (c .before .before .rows-test .taken) in
-    (omega arith, s .pre .2, c .loop-test .taken)
+slice-aggregate-words-equal : tie.Need-slice-aggregate-words-equal
+slice-aggregate-words-equal c =
+    let p = c .before .before in
+    let a = start (p .before .before) .args in
+    sym (front (a .rows * a .cols) (made p ++ drop (a .rows * a .cols) (replicate 1024 0)) 1024 (long p) (fits (p .before .before)))
 
-mul-if1 : tie.Need-mul-if1 Inv-loop μ-loop Inv-rows μ-rows
-mul-if1 c = omega (arith, cell (c .before))
+words-equal-requires : tie.Need-words-equal-requires
+words-equal-requires c κs =
+    let p = c .before .before in
+    let s = start (p .before .before) in
+    let a = s .args in
+    (front (a .rows * a .cols) (made p ++ drop (a .rows * a .cols) (replicate 1024 0)) 1024 (long p) (fits (p .before .before)), s .pre .1)
 
-add-if1 : tie.Need-add-if1 Inv-loop μ-loop Inv-rows μ-rows
-add-if1 c = omega (arith, cell (c .before))
-
-mul-if1-2 : tie.Need-mul-if1-2 Inv-loop μ-loop Inv-rows μ-rows
-mul-if1-2 c = omega (arith, cell (c .before))
-
-shared-slice-read-if1 : tie.Need-shared-slice-read-if1 Inv-loop μ-loop Inv-rows μ-rows
-shared-slice-read-if1 c = omega (arith, cell (c .before .before))
-
--- the words are equal exactly where the entries are
-compared : (c : tie.After-shared-slice-known3 Inv-loop μ-loop Inv-rows μ-rows) →
-    let l = c .before .before .before in
-    let a = l .before .before .before .before .before .args in
-    let i = l .before .before .rows .i in
-    (c .before .row-by-column .result ≡ getD (a .t .now) (i * a .cols + l .loop .j) 0) ↔ (left (a .a .now) (a .s .now) (a .m) (a .cols) i (l .loop .j) ≡ right (a .t .now) (a .cols) i (l .loop .j))
-compared c =
-    let l = c .before .before .before in
-    let a = l .before .before .before .before .before .args in
-    let at = l .before .before .rows .i * a .cols + l .loop .j in
-    let r = c .before .row-by-column in
-    let e : word (pos (getD (a .t .now) at 0)) ≡ getD (a .t .now) at 0 = residue-small (2 ^ 64) (getD (a .t .now) at 0) (omega (arith, c .shared-slice-known3 .given at)) in
-    ((λ q. sym (r .ensures) ∙ q ∙ sym e), (λ q. r .ensures ∙ q ∙ e))
-
-add-j : tie.Need-add-j Inv-loop μ-loop Inv-rows μ-rows
-add-j c = search needs
-
-loop-less : tie.Need-loop-less Inv-loop μ-loop Inv-rows μ-rows
-loop-less c = search needs
-
-loop-again : tie.Need-loop-again Inv-loop μ-loop Inv-rows μ-rows
-loop-again c =
-    let l = c .before .before .before .before in
-    let a = l .before .before .before .before .before .args in
-    (l .loop .inv .0, equal-more (a .cols) (left (a .a .now) (a .s .now) (a .m) (a .cols)) (right (a .t .now) (a .cols)) (l .before .before .rows .i) (l .loop .j) (compared (c .before) .0 (c .if1 .left)) (l .loop .inv .1))
-
-add-i : tie.Need-add-i Inv-loop μ-loop Inv-rows μ-rows
-add-i c = search needs
-
-rows-less : tie.Need-rows-less Inv-loop μ-loop Inv-rows μ-rows
-rows-less c = search needs
-
-rows-again : tie.Need-rows-again Inv-loop μ-loop Inv-rows μ-rows
-rows-again c =
-    let a = c .before .before .before .before .before .before .args in
-    (c .before .loop .inv .0, equal-row (a .cols) (left (a .a .now) (a .s .now) (a .m) (a .cols)) (right (a .t .now) (a .cols)) (c .before .before .before .rows .i) (c .before .loop .j) (omega arith) (c .before .loop .inv .1))
-
-returns : tie.Need-returns Inv-loop μ-loop Inv-rows μ-rows
+returns : tie.Need-returns
 returns c =
-    let a = c .before .before .before .before .args in
-    c .before .rows .inv .0
-    ∙ equal-all (a .cols) (left (a .a .now) (a .s .now) (a .m) (a .cols)) (right (a .t .now) (a .cols)) eqb eqb-iff (a .rows) (c .before .rows .i) (omega arith) (c .before .rows .inv .1)
-
-returns-2 : tie.Need-returns-2 Inv-loop μ-loop Inv-rows μ-rows
-returns-2 c =
-    let l = c .before .before .before .before in
-    let a = l .before .before .before .before .before .args in
-    unequal-at (a .cols) (left (a .a .now) (a .s .now) (a .m) (a .cols)) (right (a .t .now) (a .cols)) eqb eqb-iff (a .rows) (l .before .before .rows .i) (l .loop .j) (l .before .rows-test .taken) (c .before .before .before .loop-test .taken)
-    (λ e. c .if1 .taken (compared (c .before) .1 e))
+    let p = c .before .before .before in
+    let a = start (p .before .before) .args in
+    c .words-equal .ensures
+    ∙ words-front (a .rows) (a .cols) (product (a .m) (unsigned (a .m) (a .a .now)) (signed (a .cols) (a .s .now))) (unsigned (a .cols) (a .t .now)) (made p) (drop (a .rows * a .cols) (replicate 1024 0)) (p .commitment .ensures)
 
 pub commitment-holds-spec : {M : Type 1} → statement M
 commitment-holds-spec =
     tie.close
     (tie.spec
-    Inv-loop
-    μ-loop
-    Inv-rows
-    μ-rows
-    rows-holds
-    loop-holds
-    row-by-column-requires
-    mul-if1
-    add-if1
-    mul-if1-2
-    shared-slice-read-if1
-    add-j
-    loop-less
-    loop-again
-    add-i
-    rows-less
-    rows-again
-    returns
-    returns-2)
+    mul-size
+    array-borrow-prefix-own
+    slice-aggregate-commitment
+    commitment-requires
+    array-share-prefix-own
+    slice-aggregate-words-equal
+    words-equal-requires
+    returns)

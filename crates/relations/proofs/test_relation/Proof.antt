@@ -137,15 +137,19 @@ products-hold-requires c κs =
     let e = c .before .before in
     let n = new-at e in
     let short : Short (anew n) (start n .args .s .now) = short-iff (anew n) (start n .args .s .now) .0 (subst T (sym (passed-short c)) tt) in
-    let high = rebuilt-accepted (n .new .result .setting) (again (e .before .before .before)) .bound-high in
-    ((lengths e .1 .1, lengths e .2), λ j h. le-trans (short j h) high)
+    let accepted = rebuilt-accepted (n .new .result .setting) (again (e .before .before .before)) in
+    ((lengths e .1 .1, lengths e .2, accepted .t-high), λ j h. le-trans (short j h) (accepted .bound-high))
 
 returns-4 : tie.Need-returns-4
 unfolding membershipOf
 returns-4 c = says-products _ _ _ (passed-short (c .before .before)) (products-are (c .before) ∙ not-true _ (c .if4 .taken)) ∙ answers (c .before .before .before .before)
 
 commitment-holds-requires : tie.Need-commitment-holds-requires
-commitment-holds-requires c κs = let l = lengths (c .before .before .before .before) in (l .0, l .1 .0, l .2)
+commitment-holds-requires c κs =
+    let e = c .before .before .before .before in
+    let l = lengths e in
+    let accepted = rebuilt-accepted (new-at e .new .result .setting) (again (e .before .before .before)) in
+    (l .0, l .1 .0, l .2, accepted .n-high, accepted .t-high)
 
 returns-5 : tie.Need-returns-5
 unfolding membershipOf

@@ -9,8 +9,8 @@ use borrow.Author.Needs.{needs}
 use Rattle.settings.specs.Settings.{Parameters, limits, LOf, kOf, NOf, growthOf, widthOf, repunit}
 use Rattle.settings.specs.HouseList.{parameters}
 use Rattle.settings.proofs.Refusals.{In, Sizes, Ranges, says-in, says-at-most, says-sizes, refusal-exactly}
-use Rattle.settings.proofs.Levels.{k-high, powers-fit}
-use Rattle.settings.proofs.Powers.{repunit-low}
+use Rattle.settings.proofs.Levels.{L-is, k-high, powers-fit}
+use Rattle.settings.proofs.Powers.{repunit-by, repunit-low}
 use Rattle.settings.proofs.refusal.Statement.{statement}
 use Rattle.settings.proofs.refusal.Tie as tie
 
@@ -46,8 +46,9 @@ ranges c =
 
 -- k and N as the code computes them
 level-is : (c : tie.After-level) → c .level .result ≡ LOf (five (at3 (c .before)))
-unfolding LOf
-level-is c = c .level .ensures
+level-is c =
+    let r = ranges (c .before) in
+    L-is (five (at3 (c .before))) (r .b .0) (r .bound .0) (r .bound .1) (c .level .result) (c .level .ensures .0) (c .level .ensures .1)
 
 columns-is : (c : tie.After-level) → 2 * (c .level .result + 2) * at3 (c .before) .args .t ≡ NOf (five (at3 (c .before)))
 columns-is c = ap (λ (l : ℕ). 2 * (l + 2) * at3 (c .before) .args .t) (level-is c)
@@ -68,7 +69,11 @@ growth : (c : tie.Else5) → growthOf (five (at5 c)) ≤ at5 c .args .bound
 growth c = says-at-most (growthOf (five (at5 c))) (at5 c .args .bound) .passed .0 (ap not (sym (growth-is (c .before))) ∙ c .if5 .left)
 
 repunit-is : (c : tie.After-repunit-of) → c .repunit-of .result ≡ repunit (at5 (c .before) .args .b) (kOf (five (at5 (c .before))))
-repunit-is c = c .repunit-of .ensures ∙ ap (λ (l : ℕ). repunit (at5 (c .before) .args .b) (l + 2)) (level-is (c .before .before .before .before))
+repunit-is c =
+    let l = c .before .before .before .before in
+    let b = at5 (c .before) .args .b in
+    repunit-by b (l .level .result + 2) (c .repunit-of .result) (ranges (l .before) .b .0) (c .repunit-of .ensures)
+    ∙ ap (λ (x : ℕ). repunit b (x + 2)) (level-is l)
 
 width-is : (c : tie.After-wide-within) → c .wide-within .result ≡ leb (widthOf (five (at5 (c .before .before)))) (2 ^ 62)
 width-is c =

@@ -1,107 +1,71 @@
--- `word_products::commitment` meets its contract: the first i rows of `out` are those of a times s.
+-- `word_products::commitment` meets its contract: `out` holds the product of the first `base` columns of a and rows of s.
 use borrow.Author.Needs.{needs}
-use mathlib.Core.Path.{_∙_}
-use Prim.Native.Nat.{ℕ, _*_, _+_, _-_, _≤_}
+use mathlib.Core.Path.{_≡_, sym, _∙_, ap}
+use Prim.Native.Nat.{ℕ, _-_, _≤_}
 use native.Mathlib.Omega.{arith}
-use native.Mathlib.Nat.{zero-mul}
-use lib.ListN.{length-take, length-drop}
+use lib.ListN.{length}
+use Rattle.integers.specs.Lists.{build}
 use Rattle.integers.specs.Residues.{word}
 use Rattle.matrices.specs.Matrices.{product}
-use Rattle.matrices.specs.Tables.{unsigned, signed}
-use Rattle.matrices.proofs.Tables.{row-within, TableTo, table-none, table-part, table-all}
-use Rattle.word_rows.proofs.Rows.{times-row}
+use Rattle.matrices.specs.Tables.{table, unsigned, signed}
+use Rattle.matrices.proofs.Tables.{length-table}
+use Rattle.word_products.proofs.Blocks.{product-none}
 use Rattle.word_products.proofs.commitment.Statement.{statement}
 use Rattle.word_products.proofs.commitment.Tie as tie
 
 abbrev Inv-loop : tie.InvT-loop
-Inv-loop a s n m cols out₀ i₀ out i = TableTo 0 n cols (λ i j. word (product m (unsigned m a) (signed cols s) i j)) out (i * cols)
+Inv-loop a s n m cols out₀ base₀ out base = (base ≤ m) × (out ≡ table n cols (λ i j. word (product base (unsigned m a) (signed cols s) i j)))
 
 abbrev μ-loop : tie.MeasureT-loop
-μ-loop a s n m cols out₀ i₀ out i = n - i
+μ-loop a s n m cols out₀ base₀ out base = m - base
 
--- the function's entry, seen from the loop
-abbrev start : tie.At-loop Inv-loop μ-loop → tie.Start Inv-loop μ-loop
-start c = c .before .before .before
-
--- what `out` is to hold
-abbrev committed : tie.Start Inv-loop μ-loop → ℕ → ℕ → ℕ
-committed c i j = word (product (c .args .m) (unsigned (c .args .m) (c .args .a .now)) (signed (c .args .cols) (c .args .s .now)) i j)
+clear-row-requires : tie.Need-clear-row-requires Inv-loop μ-loop
+clear-row-requires c κs = search needs
 
 loop-holds : tie.Need-loop-holds Inv-loop μ-loop
 loop-holds c =
-    let s = c .before .before in
-    table-none _ _ _ (committed s) _ _ (zero-mul (s .args .cols)) (s .pre .2)
-
--- the rows that a turn lends lie within a and within `out`
-within : (c : tie.In-loop Inv-loop μ-loop) →
-    let a = start (c .before) .args in
-    let i = c .before .loop .i in
-    (i * a .m + a .m ≤ a .n * a .m) × (i * a .cols + a .cols ≤ a .n * a .cols)
-within c = (row-within _ _ _ (c .loop-test .taken), row-within _ _ _ (c .loop-test .taken))
-
-mul-from : tie.Need-mul-from Inv-loop μ-loop
-mul-from c = omega (arith, within c)
-
-add-to : tie.Need-add-to Inv-loop μ-loop
-add-to c = omega (arith, within c)
-
-mul-start : tie.Need-mul-start Inv-loop μ-loop
-mul-start c = omega (arith, within c)
-
-add-end : tie.Need-add-end Inv-loop μ-loop
-add-end c = omega (arith, within c)
-
-mul-commitment-row : tie.Need-mul-commitment-row Inv-loop μ-loop
-mul-commitment-row c = omega (arith, within c)
-
-sub-commitment-row : tie.Need-sub-commitment-row Inv-loop μ-loop
-sub-commitment-row c = omega arith
-
-part-commitment-row-start : tie.Need-part-commitment-row-start Inv-loop μ-loop
-part-commitment-row-start c = omega arith
-
-part-commitment-row-end : tie.Need-part-commitment-row-end Inv-loop μ-loop
-part-commitment-row-end c = omega (arith, within c)
-
-mul-commitment-row-2 : tie.Need-mul-commitment-row-2 Inv-loop μ-loop
-mul-commitment-row-2 c = omega (arith, within (c .before))
-
-sub-commitment-row-2 : tie.Need-sub-commitment-row-2 Inv-loop μ-loop
-sub-commitment-row-2 c = omega arith
-
-part-commitment-row-start-2 : tie.Need-part-commitment-row-start-2 Inv-loop μ-loop
-part-commitment-row-start-2 c = omega arith
-
-part-commitment-row-end-2 : tie.Need-part-commitment-row-end-2 Inv-loop μ-loop
-part-commitment-row-end-2 c = omega (arith, within (c .before))
-
-commitment-row-requires : tie.Need-commitment-row-requires Inv-loop μ-loop
-commitment-row-requires c κs =
-    let l = c .before .before in
-    let h = start (l .before) .pre in (
-      simp (length-take, length-drop) (omega (arith, within l, h .0)),
-      h .1,
-      simp (length-take, length-drop) (omega (arith, within l, l .before .loop .inv .long)),
+    let s = c .before .before .before .before .before .before in
+    let a = s .args in (
+      omega arith,
+      c .before .before .clear-row .ensures ∙ ap (λ (n : ℕ). build n (λ x. 0)) (s .pre .2)
+          ∙ product-none (a .n) (a .cols) (unsigned (a .m) (a .a .now)) (signed (a .cols) (a .s .now)),
     )
 
-add-i : tie.Need-add-i Inv-loop μ-loop
-add-i c = search needs
+-- the function's entry, seen from the loop
+abbrev entry : tie.At-loop Inv-loop μ-loop → tie.Start Inv-loop μ-loop
+entry c = c .before .before .before .before .before .before .before
+
+sub-block-length : tie.Need-sub-block-length Inv-loop μ-loop
+sub-block-length c = omega arith
+
+block-length-requires : tie.Need-block-length-requires Inv-loop μ-loop
+block-length-requires c κs = omega arith
+
+add-block-requires : tie.Need-add-block-requires Inv-loop μ-loop
+add-block-requires c κs =
+    let l = c .before .before .before in
+    let h = entry l .pre in
+    ((h .0, h .1, omega (arith, c .before .block-length .ensures)), l .loop .inv .1)
+
+add-base : tie.Need-add-base Inv-loop μ-loop
+add-base c = omega (arith, c .before .before .before .before .block-length .ensures)
 
 loop-less : tie.Need-loop-less Inv-loop μ-loop
-loop-less c = search needs
+loop-less c = omega (arith, c .before .before .before .before .block-length .ensures)
 
 loop-again : tie.Need-loop-again Inv-loop μ-loop
-loop-again c =
-    let l = c .before .before .before .before .before .before in
-    let a = start l .args in
-    table-part _ _ _ (committed (start l)) _ (l .loop .i) _ (c .before .before .before .before .before .loop-test .taken)
-    (c .before .before .commitment-row .ensures ∙ times-row (a .cols) (a .m) (l .loop .i) (a .a .now) (signed (a .cols) (a .s .now))) (l .loop .inv)
+loop-again c = (omega (arith, c .before .before .before .before .block-length .ensures), c .before .before .add-block .ensures)
 
 same-length : tie.Need-same-length Inv-loop μ-loop
-same-length c = search needs
+same-length c =
+    let a = entry (c .before) .args in
+    ap length (c .before .loop .inv .1) ∙ length-table (a .n) (a .cols) _ ∙ sym (entry (c .before) .pre .2)
 
 returns : tie.Need-returns Inv-loop μ-loop
-returns c = table-all _ _ _ (committed (start (c .before))) _ (c .before .loop .i) (omega arith) (c .before .loop .inv)
+returns c =
+    let a = entry (c .before) .args in
+    let e : c .before .loop .base ≡ a .m = omega arith in
+    c .before .loop .inv .1 ∙ ap (λ (p : ℕ). table (a .n) (a .cols) (λ i j. word (product p (unsigned (a .m) (a .a .now)) (signed (a .cols) (a .s .now)) i j))) e
 
 pub commitment-spec : {M : Type 1} → statement M
 commitment-spec =
@@ -109,21 +73,12 @@ commitment-spec =
     (tie.spec
     Inv-loop
     μ-loop
+    clear-row-requires
     loop-holds
-    mul-from
-    add-to
-    mul-start
-    add-end
-    mul-commitment-row
-    sub-commitment-row
-    part-commitment-row-start
-    part-commitment-row-end
-    mul-commitment-row-2
-    sub-commitment-row-2
-    part-commitment-row-start-2
-    part-commitment-row-end-2
-    commitment-row-requires
-    add-i
+    sub-block-length
+    block-length-requires
+    add-block-requires
+    add-base
     loop-less
     loop-again
     same-length

@@ -3,7 +3,7 @@ use borrow.Author.Needs.{needs}
 use mathlib.Core.Path.{refl, ap}
 use mathlib.Core.List.{[]}
 use Rattle.chain.specs.Chain.{State}
-use Rattle.runs.specs.Lent.{Store}
+use Rattle.states.specs.Lent.{Store}
 use Rattle.feeds.proofs.Feed.new.Statement.{statement}
 use Rattle.feeds.proofs.Feed.new.Tie as tie
 

@@ -6,6 +6,7 @@ use borrow.Author.Needs.{needs}
 use Rattle.settings.specs.Settings.{Parameters, LOf, settingRefusal, refusedOf}
 use Rattle.settings.specs.HouseList.{parameters}
 use Rattle.settings.proofs.Accepted.{accepted, checked-accepted, checked-refused}
+use Rattle.settings.proofs.Levels.{L-is}
 use Rattle.settings.proofs.Setting.new.Statement.{statement}
 use Rattle.settings.proofs.Setting.new.Tie as tie
 
@@ -17,8 +18,10 @@ passed : (c : tie.Else1) → settingRefusal (five (c .before .before)) ≡ 0
 passed c = sym (c .before .refusal .ensures) ∙ c .if1 .left
 
 level-is : (c : tie.After-level) → c .level .result ≡ LOf (five (c .before .before .before))
-unfolding LOf
-level-is c = c .level .ensures
+level-is c =
+    let s = c .before .before .before in
+    let a = accepted (five s) (passed (c .before)) in
+    L-is (five s) (a .b-low) (a .bound-low) (a .bound-high) (c .level .result) (c .level .ensures .0) (c .level .ensures .1)
 
 refusal-requires : tie.Need-refusal-requires
 refusal-requires c κs = search needs

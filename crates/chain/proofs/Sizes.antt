@@ -1,0 +1,56 @@
+-- How large the numbers and the matrices of a small setting are.
+use mathlib.Core.Path.{_≡_, subst, sym}
+use mathlib.Core.Bool.{true, _&&_}
+use Prim.Native.Nat.{_*_, _≤_}
+use native.Mathlib.Omega.{arith}
+use native.Mathlib.Nat.{mul-le-mul}
+use lib.Dec.{T, leb, leb→le}
+use Rattle.integers.proofs.Tests.{and-fst, and-snd}
+use Rattle.settings.specs.Settings.{Parameters, kOf, NOf}
+use Rattle.chain.specs.Limits.{small, programLimits}
+
+pub record Sizes (p : Parameters) : Type 0 where
+  pub n-high : p .n ≤ 8
+  pub m-high : p .m ≤ 16
+  pub t-high : p .t ≤ 2
+  pub k-high : kOf p ≤ 8
+  pub N-high : NOf p ≤ 32
+  pub A-high : p .n * p .m ≤ 128
+  pub T-high : p .n * p .t ≤ 16
+  pub D-high : p .t * p .t ≤ 4
+  pub S-high : p .m * p .t ≤ 32
+  pub T~-high : p .n * NOf p ≤ 256
+  pub D~-high : NOf p * NOf p ≤ 1024
+  pub S~-high : p .m * NOf p ≤ 512
+  pub C-high : NOf p * p .t ≤ 64
+
+by-four : (p : Parameters) → p .n ≤ 8 → p .m ≤ 16 → p .t ≤ 2 → kOf p ≤ 8 → Sizes p
+by-four p n m t k =
+    let N : NOf p ≤ 32 = mul-le-mul (mul-le-mul {n₁ = 2} {n₂ = 2} (omega arith) k) t in
+    record {
+      n-high = n;
+      m-high = m;
+      t-high = t;
+      k-high = k;
+      N-high = N;
+      A-high = mul-le-mul n m;
+      T-high = mul-le-mul n t;
+      D-high = mul-le-mul t t;
+      S-high = mul-le-mul m t;
+      T~-high = mul-le-mul n N;
+      D~-high = mul-le-mul N N;
+      S~-high = mul-le-mul m N;
+      C-high = mul-le-mul N t;
+    }
+
+pub sizes : (p : Parameters) → small programLimits p ≡ true → Sizes p
+unfolding small
+sizes p e =
+    let all : T (leb (p .n) 8 && leb (p .m) 16 && leb (p .t) 2 && leb (kOf p) 8) = subst T (sym e) tt in
+    let three = and-fst (leb (p .n) 8 && leb (p .m) 16 && leb (p .t) 2) (leb (kOf p) 8) all in
+    let two = and-fst (leb (p .n) 8 && leb (p .m) 16) (leb (p .t) 2) three in
+    by-four p
+    (leb→le _ _ (and-fst (leb (p .n) 8) (leb (p .m) 16) two))
+    (leb→le _ _ (and-snd (leb (p .n) 8) (leb (p .m) 16) two))
+    (leb→le _ _ (and-snd (leb (p .n) 8 && leb (p .m) 16) (leb (p .t) 2) three))
+    (leb→le _ _ (and-snd (leb (p .n) 8 && leb (p .m) 16 && leb (p .t) 2) (leb (kOf p) 8) all))

@@ -1,0 +1,69 @@
+// A fold of two nodes of a chain. Settings are those that the chain program takes, so that all matrices stand in local arrays.
+ghost use mathlib.Core.Path.{_≡_};
+ghost use mathlib.Core.Bool.{true};
+ghost use Rattle.settings.specs.Settings.{parametersOf};
+ghost use Rattle.lova.specs.Answers.{ends, verdictOf};
+ghost use Rattle.lova.specs.Stored.{matrixT, matrixS, matrixD};
+ghost use Rattle.lova.specs.Calls.{Rebuilt, Fits};
+ghost use Rattle.chain.specs.Limits.{small, programLimits};
+ghost use Rattle.chain.specs.Nodes.{nodeOf, refuses, foldOf};
+use lova::Verdict;
+use settings::Setting;
+
+// Whether a verdict is a refusal.
+fn is_refusal(verdict: Verdict) -> bool
+    ensures { λ r. ⌜ r ≡ refuses (verdictOf verdict) ⌝ }
+{
+    match verdict {
+        Verdict::Refused(_) => true,
+        Verdict::Yes => false,
+        Verdict::Norm => false,
+        Verdict::Commitment => false,
+    }
+}
+
+// Makes the node t1, d1, s1 its fold with t2, d2, s2 and the challenge c; a refusal leaves it as it was.
+pub fn fold(
+    setting: Setting,
+    a: &[u64],
+    t1: &mut [u64],
+    d1: &mut [i64],
+    s1: &mut [i64],
+    t2: &[u64],
+    d2: &[i64],
+    s2: &[i64],
+    c: &[u8],
+) -> Verdict
+    requires { ⌜ Rebuilt setting ⌝ }
+    requires { ⌜ small programLimits (parametersOf setting) ≡ true ⌝ }
+    requires { ⌜ Fits (matrixT (parametersOf setting)) (now t1) × Fits (matrixD (parametersOf setting)) (now d1) × Fits (matrixS (parametersOf setting)) (now s1) ⌝ }
+    ensures { λ r. ⌜ ends (verdictOf r) (nodeOf (now (t1 .exit)) (now (d1 .exit)) (now (s1 .exit))) ≡ foldOf (parametersOf setting) (now (a .entry)) (nodeOf (now (t1 .entry)) (now (d1 .entry)) (now (s1 .entry))) (nodeOf (now (t2 .entry)) (now (d2 .entry)) (now (s2 .entry))) (now (c .entry)) ⌝ }
+{
+    let mut t = [0u64; 16];
+    let mut d = [0i64; 4];
+    let mut s = [0i64; 32];
+    let size_t = setting.n * setting.t;
+    let size_d = setting.t * setting.t;
+    let size_s = setting.m * setting.t;
+    let answer = fold_calls::calls(
+        setting,
+        a,
+        t1,
+        d1,
+        s1,
+        t2,
+        d2,
+        s2,
+        c,
+        &mut t[..size_t],
+        &mut d[..size_d],
+        &mut s[..size_s],
+    );
+    if is_refusal(answer) {
+        return answer;
+    }
+    copies::copy_words(&t[..size_t], t1);
+    copies::copy_wholes(&d[..size_d], d1);
+    copies::copy_wholes(&s[..size_s], s1);
+    answer
+}

@@ -1,0 +1,65 @@
+//! Inputs for one setting: honest instances, their message and a challenge, all from one seed.
+
+use idiomatic_plain as plain;
+
+/// Numbers that look random and are the same in each run.
+struct Numbers(u64);
+
+impl Numbers {
+    fn next(&mut self) -> u64 {
+        self.0 = self.0.wrapping_mul(6364136223846793005).wrapping_add(1442695040888963407);
+        let mixed = (self.0 ^ (self.0 >> 33)).wrapping_mul(0xff51afd7ed558ccd);
+        mixed ^ (mixed >> 29)
+    }
+}
+
+pub struct Case {
+    pub p: [u64; 5],
+    pub n: usize,
+    pub m: usize,
+    pub t: usize,
+    pub columns: usize,
+    pub a: Vec<u64>,
+    pub s1: Vec<i64>,
+    pub s2: Vec<i64>,
+    pub t1: Vec<u64>,
+    pub d1: Vec<i64>,
+    pub t2: Vec<u64>,
+    pub d2: Vec<i64>,
+    pub v: Vec<i64>,
+    pub tt: Vec<u64>,
+    pub dd: Vec<i64>,
+    pub ss: Vec<i64>,
+    pub c: Vec<u8>,
+}
+
+/// The largest size that every entry of a witness may have at once.
+fn largest(bound: u64, m: u64) -> u64 {
+    let mut size = ((bound / m) as f64).sqrt() as u64;
+    while size * size * m > bound {
+        size -= 1;
+    }
+    size
+}
+
+/// A case of this setting, which must be accepted.
+pub fn case(p: [u64; 5]) -> Case {
+    let z = plain::shape(p).ok().expect("the setting is accepted");
+    let (n, m, t, columns) = (z.n, z.m, z.t, z.columns);
+    let mut numbers = Numbers(2024_1964);
+    let size = largest(z.bound, m as u64);
+    let a = (0..n * m).map(|_| numbers.next()).collect::<Vec<u64>>();
+    let mut witness = || (0..m * t).map(|_| (numbers.next() % (2 * size + 1)) as i64 - size as i64).collect::<Vec<i64>>();
+    let (s1, s2) = (witness(), witness());
+    let c = (0..columns * t).map(|_| (numbers.next() % 3) as u8).collect();
+    let instance = |s: &[i64]| {
+        let (mut t_out, mut d_out) = (vec![0; n * t], vec![0; t * t]);
+        assert_eq!(plain::commit(p, &a, s, &mut t_out, &mut d_out), 0);
+        (t_out, d_out)
+    };
+    let ((t1, d1), (t2, d2)) = (instance(&s1), instance(&s2));
+    let (mut v, mut tt) = (vec![0; t * t], vec![0; n * columns]);
+    let (mut dd, mut ss) = (vec![0; columns * columns], vec![0; m * columns]);
+    assert_eq!(plain::message(p, &a, &s1, &s2, &mut v, &mut tt, &mut dd, &mut ss), 0);
+    Case { p, n, m, t, columns, a, s1, s2, t1, d1, t2, d2, v, tt, dd, ss, c }
+}
