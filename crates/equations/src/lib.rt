@@ -16,13 +16,14 @@ pub fn norm_holds(setting: Setting, d1: &[i64], v: &[i64], d2: &[i64], dd: &[i64
     requires { ⌜ Fits (matrixD~ (parametersOf setting)) (now dd) × Bounded (NOf (parametersOf setting)) (NOf (parametersOf setting)) (HOf (parametersOf setting)) (matrixD~ (parametersOf setting) .read (now dd)) ⌝ }
     ensures { λ r. ⌜ r ≡ equal (2 * setting .t) (2 * setting .t) (bothSides (NOf (parametersOf setting)) (gadget (parametersOf setting)) (matrixD~ (parametersOf setting) .read (now (dd .entry)))) (blocks (setting .t) (signed (setting .t) (now (d1 .entry))) (signed (setting .t) (now (v .entry))) (signed (setting .t) (now (d2 .entry)))) ⌝ }
 {
+    let powers = setting.powers;
     let wide = 2 * setting.t;
     let mut equal = true;
     let mut i: usize = 0;
     'rows: while i < wide {
         let mut j: usize = 0;
         while j < wide {
-            if recomposition::recomposed_d(setting, dd, i, j)
+            if recomposition::weighted_block(dd, setting.columns, i, j, &powers, setting.k)
                 != blocks::joined_d(d1, v, d2, setting.t, i, j)
             {
                 equal = false;
@@ -40,6 +41,7 @@ pub fn commitment_holds(setting: Setting, t1: &[u64], t2: &[u64], tt: &[u64]) ->
     requires { ⌜ Rebuilt setting × Fits (matrixT (parametersOf setting)) (now t1) × Fits (matrixT (parametersOf setting)) (now t2) × Fits (matrixT~ (parametersOf setting)) (now tt) ⌝ }
     ensures { λ r. ⌜ r ≡ equalWords (setting .n) (2 * setting .t) (product (NOf (parametersOf setting)) (matrixT~ (parametersOf setting) .read (now (tt .entry))) (gadget (parametersOf setting))) (beside (setting .t) (unsigned (setting .t) (now (t1 .entry))) (unsigned (setting .t) (now (t2 .entry)))) ⌝ }
 {
+    let powers = setting.powers;
     let rows = setting.n;
     let wide = 2 * setting.t;
     let mut congruent = true;
@@ -47,7 +49,8 @@ pub fn commitment_holds(setting: Setting, t1: &[u64], t2: &[u64], tt: &[u64]) ->
     'rows: while i < rows {
         let mut j: usize = 0;
         while j < wide {
-            if recomposition::recomposed_t(setting, tt, i, j)
+            let start = i * setting.columns + j * setting.k;
+            if recomposition::weighted_words(tt, start, &powers, setting.k)
                 != blocks::joined_t(t1, t2, rows, setting.t, i, j)
             {
                 congruent = false;

@@ -1,19 +1,22 @@
 // The points about single entries: digits, and witnesses of Setting 1.
 ghost use Prim.Native.Nat.{_≤_};
 use super::example;
+use super::lines;
 
-fn five_digits(x: i64, b: u64)
+pub fn five_digits(x: i64, b: u64)
     requires { ⌜ 2 ≤ b ⌝ }
 {
-    let mut digits = [0i64; 5];
-    prover_calls::digits_of(x, b, &mut digits);
+    let mut out = [0i64; 5];
+    digits::write_digits(x, b, &mut out);
+    lines::digits(x, b, &out);
 }
 
 fn three_digits(x: i64, b: u64)
     requires { ⌜ 2 ≤ b ⌝ }
 {
-    let mut digits = [0i64; 3];
-    prover_calls::digits_of(x, b, &mut digits);
+    let mut out = [0i64; 3];
+    digits::write_digits(x, b, &mut out);
+    lines::digits(x, b, &out);
 }
 
 pub fn digit_points() {
@@ -26,8 +29,8 @@ pub fn digit_points() {
 
 // The last T is 0: the product of A and S is 2^64.
 pub fn witness_points() {
-    example::committed(3, 10);
-    example::committed(3, 11);
-    example::committed(3, -9223372036854775808);
-    example::committed(9223372036854775808, 2);
+    example::committed([3], [10]);
+    example::committed([3], [11]);
+    example::committed([3], [-9223372036854775808]);
+    example::committed([9223372036854775808], [2]);
 }

@@ -1,7 +1,7 @@
 // The product T~ C modulo 2^64 of a matrix of words and a challenge, stored by rows: additions and subtractions alone.
 ghost use mathlib.Core.Path.{_≡_};
 ghost use mathlib.Core.Bool.{cond};
-ghost use Prim.Native.Nat.{_*_};
+ghost use Prim.Native.Nat.{_*_, _<_};
 ghost use lib.IntN.{pos, _+ℤ_, _*ℤ_};
 ghost use lib.ListN.{length, getD};
 ghost use Rattle.integers.specs.Lists.{build};
@@ -40,8 +40,34 @@ fn add_ternary_row(x: u64, c: &[u8], row: &mut [u64])
     }
 }
 
-// The row x, of `cols` words, times the challenge.
-fn fold_row(x: &[u64], c: &[u8], cols: usize, t: usize, row: &mut [u64])
+// The row x, of `cols` words, times column j of the challenge.
+fn fold_column(x: &[u64], c: &[u8], cols: usize, t: usize, j: usize) -> u64
+    requires { ⌜ (length (now x) ≡ cols) × (length (now c) ≡ cols * t) × (j < t) ⌝ }
+    ensures { λ r. ⌜ r ≡ word (rowTimes cols (now (x .entry)) (challenge t (now (c .entry))) j) ⌝ }
+{
+    let mut sum: u64 = 0;
+    let mut k: usize = 0;
+    while k < cols {
+        sum = add_ternary(sum, x[k], c[k * t + j]);
+        k += 1;
+    }
+    sum
+}
+
+// The row x, of `cols` words, times the challenge, by its columns: each sum is stored once.
+fn fold_narrow(x: &[u64], c: &[u8], cols: usize, t: usize, row: &mut [u64])
+    requires { ⌜ (length (now x) ≡ cols) × (length (now c) ≡ cols * t) × (length (now row) ≡ t) ⌝ }
+    ensures { λ _. ⌜ now (row .exit) ≡ build t (λ j. word (rowTimes cols (now (x .entry)) (challenge t (now (c .entry))) j)) ⌝ }
+{
+    let mut j: usize = 0;
+    while j < t {
+        row[j] = fold_column(x, c, cols, t, j);
+        j += 1;
+    }
+}
+
+// The row x, of `cols` words, times the challenge, by its rows.
+fn fold_wide(x: &[u64], c: &[u8], cols: usize, t: usize, row: &mut [u64])
     requires { ⌜ (length (now x) ≡ cols) × (length (now c) ≡ cols * t) × (length (now row) ≡ t) ⌝ }
     ensures { λ _. ⌜ now (row .exit) ≡ build t (λ j. word (rowTimes cols (now (x .entry)) (challenge t (now (c .entry))) j)) ⌝ }
 {
@@ -52,6 +78,19 @@ fn fold_row(x: &[u64], c: &[u8], cols: usize, t: usize, row: &mut [u64])
         let end = start + t;
         add_ternary_row(x[k], &c[start..end], row);
         k += 1;
+    }
+}
+
+// The row x, of `cols` words, times the challenge. A row of fewer than four sums fills no vector, and to add to it in
+// memory once for each word of x takes longer than to go through x once for each sum.
+fn fold_row(x: &[u64], c: &[u8], cols: usize, t: usize, row: &mut [u64])
+    requires { ⌜ (length (now x) ≡ cols) × (length (now c) ≡ cols * t) × (length (now row) ≡ t) ⌝ }
+    ensures { λ _. ⌜ now (row .exit) ≡ build t (λ j. word (rowTimes cols (now (x .entry)) (challenge t (now (c .entry))) j)) ⌝ }
+{
+    if t < 4 {
+        fold_narrow(x, c, cols, t, row);
+    } else {
+        fold_wide(x, c, cols, t, row);
     }
 }
 

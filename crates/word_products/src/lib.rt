@@ -75,8 +75,8 @@ fn block_length(left: usize) -> usize
     if left < 128 { left } else { 128 }
 }
 
-// a times s modulo 2^64, as T~ is A S~: a has n rows and m columns, s has m rows and `cols` columns.
-pub fn commitment(a: &[u64], s: &[i64], n: usize, m: usize, cols: usize, out: &mut [u64])
+// a times s, block by block of the rows of s.
+fn commit_wide(a: &[u64], s: &[i64], n: usize, m: usize, cols: usize, out: &mut [u64])
     requires { ⌜ (length (now a) ≡ n * m) × (length (now s) ≡ m * cols) × (length (now out) ≡ n * cols) ⌝ }
     ensures { λ _. ⌜ now (out .exit) ≡ table n cols (λ i j. word (product m (unsigned m (now (a .entry))) (signed cols (now (s .entry))) i j)) ⌝ }
 {
@@ -86,5 +86,51 @@ pub fn commitment(a: &[u64], s: &[i64], n: usize, m: usize, cols: usize, out: &m
         let len = block_length(m - base);
         add_block(a, s, n, m, cols, base, len, out);
         base += len;
+    }
+}
+
+// The row x, of m words, times column j of s. Its entries are found by adding: k * cols + j would be a multiplication more
+// for each product.
+fn times_column(x: &[u64], s: &[i64], m: usize, cols: usize, j: usize) -> u64
+    requires { ⌜ (length (now x) ≡ m) × (length (now s) ≡ m * cols) × (j < cols) ⌝ }
+    ensures { λ r. ⌜ r ≡ word (rowTimes m (now (x .entry)) (signed cols (now (s .entry))) j) ⌝ }
+{
+    let mut sum: u64 = 0;
+    let mut at = j;
+    let mut k: usize = 0;
+    while k < m {
+        sum = word_rows::add_product(sum, x[k], s[at]);
+        at += cols;
+        k += 1;
+    }
+    sum
+}
+
+// a times s, entry by entry: each sum is stored once.
+fn commit_narrow(a: &[u64], s: &[i64], n: usize, m: usize, cols: usize, out: &mut [u64])
+    requires { ⌜ (length (now a) ≡ n * m) × (length (now s) ≡ m * cols) × (length (now out) ≡ n * cols) ⌝ }
+    ensures { λ _. ⌜ now (out .exit) ≡ table n cols (λ i j. word (product m (unsigned m (now (a .entry))) (signed cols (now (s .entry))) i j)) ⌝ }
+{
+    let end = n * cols;
+    let mut e: usize = 0;
+    while e < end {
+        let from = e / cols * m;
+        let to = from + m;
+        out[e] = times_column(&a[from..to], s, m, cols, e % cols);
+        e += 1;
+    }
+}
+
+// a times s modulo 2^64, as T~ is A S~: a has n rows and m columns, s has m rows and `cols` columns. With fewer than four
+// columns a product of the blocks waits for the sum that the one before it stored in the same word; in a short sum the
+// division that finds an entry's place would cost as much.
+pub fn commitment(a: &[u64], s: &[i64], n: usize, m: usize, cols: usize, out: &mut [u64])
+    requires { ⌜ (length (now a) ≡ n * m) × (length (now s) ≡ m * cols) × (length (now out) ≡ n * cols) ⌝ }
+    ensures { λ _. ⌜ now (out .exit) ≡ table n cols (λ i j. word (product m (unsigned m (now (a .entry))) (signed cols (now (s .entry))) i j)) ⌝ }
+{
+    if cols < 4 && 64 <= m {
+        commit_narrow(a, s, n, m, cols, out);
+    } else {
+        commit_wide(a, s, n, m, cols, out);
     }
 }

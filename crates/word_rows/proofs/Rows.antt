@@ -83,11 +83,19 @@ added-both f g h first second third v w k = record {
 pub read-on : (b x : ℕ) (y : ℤ) {r : ℕ} → SFits w64 y → r ≡ word (pos b +ℤ pos x *ℤ toZ w64 (ofZ w64 y)) → r ≡ word (pos b +ℤ pos x *ℤ y)
 read-on b x y f e = e ∙ ap (λ (z : ℤ). word (pos b +ℤ pos x *ℤ z)) (toZ-ofZ w64 y f)
 
+-- y is added to a word that holds x
+held-on : (x y : ℤ) {p q : ℕ} → p ≡ word x → q ≡ word (pos p +ℤ y) → q ≡ word (x +ℤ y)
+held-on x y e h = h ∙ ap (λ (n : ℕ). word (pos n +ℤ y)) e ∙ word-on x y
+
+-- one term more is added to a word that holds a sum
+pub sum-on : (n : ℕ) (f : ℕ → ℤ) {p q : ℕ} → p ≡ word (sum n f) → q ≡ word (pos p +ℤ f n) → q ≡ word (sum (n + 1) f)
+sum-on n f e h = held-on (sum n f) (f n) e h ∙ ap word (sym (sum-step n f))
+
 -- four products, added to b one after the other
 module _ (b : ℕ) (f : ℕ → ℤ) where
   next-on : (n : ℕ) {p q : ℕ} → p ≡ word (pos b +ℤ sum n f) → q ≡ word (pos p +ℤ f n) → q ≡ word (pos b +ℤ sum (n + 1) f)
   next-on n e h =
-      h ∙ ap (λ (y : ℕ). word (pos y +ℤ f n)) e ∙ word-on (pos b +ℤ sum n f) (f n)
+      held-on (pos b +ℤ sum n f) (f n) e h
       ∙ ap word (+ℤ-assoc (pos b) (sum n f) (f n) ∙ ap (λ (z : ℤ). pos b +ℤ z) (sym (sum-step n f)))
 
   four-on : {p q r s : ℕ} → p ≡ word (pos b +ℤ f 0) → q ≡ word (pos p +ℤ f 1) → r ≡ word (pos q +ℤ f 2) → s ≡ word (pos r +ℤ f 3)
@@ -104,10 +112,14 @@ times-none n x Y = refl
 part-at : {A : Type 0} (d : A) (b n : ℕ) (xs : List A) (j : ℕ) → j < n → getD (take (b + n - b) (drop b xs)) j d ≡ getD xs (b + j) d
 part-at d b n xs j h = getD-take (b + n - b) (drop b xs) j d (omega arith) ∙ getD-drop b xs j d
 
--- row i of a matrix, lent as a part of it, times Y
+-- row i of a matrix, lent as a part of it, times Y: one entry, and all
+pub times-entry : (m i j : ℕ) (a : List ℕ) (Y : Matrix)
+    → word (rowTimes m (take (i * m + m - i * m) (drop (i * m) a)) Y j) ≡ word (product m (unsigned m a) Y i j)
+times-entry m i j a Y = ap word (sum-cong m _ _ (λ k l. ap (λ (v : ℕ). pos v *ℤ Y k j) (part-at 0 (i * m) m a k l)))
+
 pub times-row : (n m i : ℕ) (a : List ℕ) (Y : Matrix)
     → build n (λ j. word (rowTimes m (take (i * m + m - i * m) (drop (i * m) a)) Y j)) ≡ build n (λ j. word (product m (unsigned m a) Y i j))
-times-row n m i a Y = build-cong n _ _ (λ j h. ap word (sum-cong m _ _ (λ k l. ap (λ (v : ℕ). pos v *ℤ Y k j) (part-at 0 (i * m) m a k l))))
+times-row n m i a Y = build-cong n _ _ (λ j h. times-entry m i j a Y)
 
 module _ {A : Type 0} (value : A → ℤ) (d : A) (cols : ℕ) (x : List ℕ) (ys : List A) (k j : ℕ) (h : j < cols) where
   -- one row of the second factor more, lent as a part of it

@@ -21,7 +21,7 @@ pub fn clear_row(row: &mut [u64])
 }
 
 // sum + x y modulo 2^64.
-fn add_product(sum: u64, x: u64, y: i64) -> u64
+pub fn add_product(sum: u64, x: u64, y: i64) -> u64
     ensures { λ r. ⌜ r ≡ word (pos sum +ℤ pos x *ℤ y) ⌝ }
 {
     std::num::wrapping_add_u64(sum, integers::wrapping_mul(x, integers::residue(y)))
