@@ -59,14 +59,24 @@ fn compare(input: &[u8], rng: &mut Rng, tally: &mut Tally, place: &str) {
     });
 }
 
-#[test]
-fn random_chains() {
-    let (mut rng, mut tally) = (generator("random_chains"), Tally::new("random_chains"));
-    for case in 0..10000 {
+/// Half of the random chains. Two tests of one half each run side by side.
+fn random(name: &str) {
+    let (mut rng, mut tally) = (generator(name), Tally::new(name));
+    for case in 0..5000 {
         let input = any(&mut rng);
         compare(&input, &mut rng, &mut tally, &format!("case {case}"));
     }
     tally.finish(&[&ENDS[..], &ALSO].concat());
+}
+
+#[test]
+fn random_chains() {
+    random("random_chains");
+}
+
+#[test]
+fn more_random_chains() {
+    random("more_random_chains");
 }
 
 #[test]

@@ -1,22 +1,9 @@
-// The lines that the chain program prints last, each written to the start of a buffer.
+// The line that the chain program prints for a refusal, written to the start of a buffer. It is printed for a line that came
+// and for one that is missing.
 ghost use mathlib.Core.Path.{_≡_};
 ghost use Prim.Native.Nat.{_≤_};
 ghost use lib.ListN.{length, take};
-ghost use Rattle.lova.specs.Answers.{membershipOf};
-ghost use Rattle.chain.specs.Reports.{endLine, refusedLine};
-use lova::Membership;
-
-// Writes the last line, with the count of folds and the relation test, and answers its length.
-pub fn put_end(out: &mut [u8], folds: u64, membership: Membership) -> usize
-    requires { ⌜ 64 ≤ length (now out) ⌝ }
-    ensures { λ r. ⌜ (r ≤ length (now (out .exit))) × (take r (now (out .exit)) ≡ endLine folds (membershipOf membership)) ⌝ }
-{
-    let word = field_writers::put_bytes(out, 0, b"end");
-    let after_number = field_writers::put_number(out, word, folds);
-    let at = report_words::put_membership(out, after_number, membership);
-    out[at] = 10;
-    at + 1
-}
+ghost use Rattle.chain.specs.Reports.{refusedLine};
 
 // Writes the line of a refusal, with the number of the input line and the refusal's, and answers its length.
 pub fn put_refused(out: &mut [u8], line: u64, number: u8) -> usize

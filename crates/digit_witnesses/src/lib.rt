@@ -8,6 +8,9 @@ ghost use Rattle.settings.specs.Settings.{parametersOf, NOf};
 ghost use Rattle.digits.specs.Digits.{rowDigits};
 ghost use Rattle.lova.specs.Calls.{Rebuilt};
 ghost use Rattle.lova.specs.Fold.{besideS, digitWitness};
+
+mod digit_rows;
+
 use settings::Setting;
 
 // Writes one row of a digit witness: the digits of s1's row, and then those of s2's.

@@ -4,7 +4,15 @@ ghost use mathlib.Core.Path.{_≡_};
 ghost use Prim.Native.Nat.{_^_, _<_};
 ghost use lib.ListN.{length};
 ghost use Rattle.states.specs.Lent.{Roomy};
-ghost use Rattle.feeds.specs.Feeds.{Steady};
+ghost use Rattle.driver.specs.Feeds.{Steady};
+
+mod chunks;
+mod cuts;
+mod endings;
+mod feeds;
+mod last_line;
+mod readings;
+
 use feeds::Feed;
 
 // How many chunks are read at most: 2^61 bytes.

@@ -1,1 +1,2 @@
-mod Recomposition
+pub mod Parts
+mod Recomposed

@@ -8,6 +8,10 @@ ghost use Rattle.lova.specs.Stored.{matrixT, matrixD, matrixV, matrixT~, matrix
 ghost use Rattle.lova.specs.Tests.{equal, equalWords};
 ghost use Rattle.lova.specs.Calls.{Rebuilt, Fits, Bounded};
 ghost use Rattle.lova.specs.Fold.{beside, blocks, gadget};
+
+mod blocks;
+mod recomposition;
+
 use settings::Setting;
 
 // The first equation, G-transposed D~ G = D in whole numbers: compared by rows, up to the first unequal entry.

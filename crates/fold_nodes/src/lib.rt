@@ -7,6 +7,9 @@ ghost use Rattle.lova.specs.Stored.{matrixT, matrixS, matrixD};
 ghost use Rattle.lova.specs.Calls.{Rebuilt, Fits};
 ghost use Rattle.chain.specs.Limits.{small, programLimits};
 ghost use Rattle.chain.specs.Nodes.{nodeOf, refuses, foldOf};
+
+mod fold_calls;
+
 use lova::Verdict;
 use settings::Setting;
 

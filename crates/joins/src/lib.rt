@@ -6,6 +6,9 @@ ghost use Rattle.lova.specs.Answers.{ends, answerOf};
 ghost use Rattle.lova.specs.Tests.{fitsJoined};
 ghost use Rattle.lova.specs.Calls.{Rebuilt};
 ghost use Rattle.lova.specs.Join.{joinRules, join};
+
+mod joined;
+
 use lova::Answer;
 use settings::Setting;
 

@@ -17,8 +17,8 @@ use Rattle.settings.proofs.Powers.{length-powers}
 use Rattle.settings.proofs.Accepted.{checked-number, checked-setting}
 use Rattle.lova.specs.Answers.{done, refused, Outcome, ends, unlessRefused}
 use Rattle.lova.proofs.Refusals.{ends-so, refuses-so}
-use Rattle.codes.specs.Codes.{codeOf}
-use Rattle.codes.specs.Given.{givenRules, given}
+use Rattle.lova_c.specs.Codes.{codeOf}
+use Rattle.lova_c.specs.Given.{givenRules, given}
 
 -- an accepted setting has 33 powers
 pub powers-long : (p : Parameters) (d : Checked) → d ≡ checkedOf p → d .refusal ≡ 0 → length (d .setting .powers) ≡ 33

@@ -1,2 +1,4 @@
+pub mod Writing
+pub mod Telling
 mod Giving
 mod Passing

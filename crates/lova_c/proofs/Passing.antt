@@ -3,7 +3,7 @@ use mathlib.Core.Path.{_≡_, _∙_, ap}
 use Prim.Native.Nat.{ℕ}
 use Rattle.settings.specs.Settings.{Parameters}
 use Rattle.lova.specs.Answers.{Meaning, Outcome, ends}
-use Rattle.codes.specs.Codes.{codeOf}
+use Rattle.lova_c.specs.Codes.{codeOf}
 
 -- the call had p, which are the five numbers q, and said a and left x
 pub passed : {X : Type 0} (f : Parameters → Outcome X) (p q : Parameters) (a : Meaning) (x : X) (r : ℕ) → r ≡ codeOf a → ends a x ≡ f p → p ≡ q

@@ -9,8 +9,11 @@ ghost use Rattle.lova.specs.Witness.{witness};
 ghost use Rattle.lova.specs.Join.{join};
 ghost use Rattle.lova.specs.Verdict.{verdict};
 ghost use Rattle.lova.specs.Relation.{relation};
-ghost use Rattle.codes.specs.Codes.{codeOf};
-ghost use Rattle.codes.specs.Given.{settingGiven, listedGiven};
+ghost use Rattle.lova_c.specs.Codes.{codeOf};
+ghost use Rattle.lova_c.specs.Given.{settingGiven, listedGiven};
+
+mod codes;
+
 use settings::Setting;
 
 // Commit: writes T and D of the witness s. Refusals 1 to 8.

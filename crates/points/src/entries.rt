@@ -3,7 +3,7 @@ ghost use Prim.Native.Nat.{_≤_};
 use super::example;
 use super::lines;
 
-pub fn five_digits(x: i64, b: u64)
+pub(crate) fn five_digits(x: i64, b: u64)
     requires { ⌜ 2 ≤ b ⌝ }
 {
     let mut out = [0i64; 5];
@@ -19,7 +19,7 @@ fn three_digits(x: i64, b: u64)
     lines::digits(x, b, &out);
 }
 
-pub fn digit_points() {
+pub(crate) fn digit_points() {
     five_digits(7, 2);
     five_digits(-5, 2);
     three_digits(5, 3);
@@ -28,7 +28,7 @@ pub fn digit_points() {
 }
 
 // The last T is 0: the product of A and S is 2^64.
-pub fn witness_points() {
+pub(crate) fn witness_points() {
     example::committed([3], [10]);
     example::committed([3], [11]);
     example::committed([3], [-9223372036854775808]);

@@ -13,26 +13,26 @@ const S2: [i64; 1] = [-5];
 const C: [u8; 10] = [1, 1, 1, 0, 0, 2, 0, 2, 0, 0];
 
 // An instance of Setting 1.
-pub struct Instance {
+pub(crate) struct Instance {
     t: [u64; 1],
     d: [i64; 1],
 }
 
 // Setting 1.
-pub fn one() -> Setting {
+pub(crate) fn one() -> Setting {
     let given = Setting::listed(1);
     given.setting
 }
 
 // Commits to one entry, by one entry of A.
-pub fn committed(a: [u64; 1], s: [i64; 1]) -> Instance {
+pub(crate) fn committed(a: [u64; 1], s: [i64; 1]) -> Instance {
     let mut t = [111u64; 1];
     let mut d = [-222i64; 1];
     lines::commit(one(), &a, &s, &mut t, &mut d);
     Instance { t: t, d: d }
 }
 
-pub fn fold() {
+pub(crate) fn fold() {
     let first = committed(A, S1);
     let second = committed(A, S2);
     let t1 = first.t;

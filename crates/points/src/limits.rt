@@ -7,7 +7,7 @@ const FOUR_TO_24: u64 = 281474976710656;
 
 const FOUR_TO_15: u64 = 1073741824;
 
-pub fn points() {
+pub(crate) fn points() {
     answers::asked(1, 1, 1, 2, 100);
     answers::asked(1, 1, 1, 2, 99);
     answers::asked(1, 4096, 1, 2, FOUR_TO_24 - 1);
@@ -29,7 +29,7 @@ fn listed(number: usize) {
     answers::checked(given);
 }
 
-pub fn house_list() {
+pub(crate) fn house_list() {
     listed(0);
     listed(1);
     listed(2);

@@ -53,7 +53,7 @@ struct Instance {
     d: [i64; 4],
 }
 
-pub fn fold() {
+pub(crate) fn fold() {
     answers::asked(1, 2, 2, 3, 512);
     let first = committed(S1);
     let second = committed(S2);

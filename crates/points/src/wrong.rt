@@ -4,7 +4,7 @@ use super::entries;
 use super::example;
 use super::lines;
 
-pub fn points() {
+pub(crate) fn points() {
     // By the remainder of a negative entry its digit would be 1 and the rest -1 again, without end.
     entries::five_digits(-1, 2);
     // A witness whose square is 0 modulo 2^64: by sums that wrap it would commit.

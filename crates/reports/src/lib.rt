@@ -6,7 +6,10 @@ ghost use lib.ListN.{length, take};
 ghost use Rattle.numerals.specs.Bytes.{written};
 ghost use Rattle.text.specs.Lines.{tabbed};
 ghost use Rattle.lova.specs.Answers.{verdictOf};
-ghost use Rattle.chain.specs.Reports.{instanceFields, leafLine, foldLine};
+ghost use Rattle.chain.specs.Reports.{instanceFields, wordOf, leafLine, foldLine};
+
+mod lists;
+
 use lova::Verdict;
 
 // The numbers of t and d, a tab before each, from `at` on, and a line feed; answers the place past it.
@@ -15,9 +18,22 @@ fn put_instance(out: &mut [u8], at: usize, t: &[u64], d: &[i64]) -> usize
     ensures { λ r. ⌜ (r ≡ at + length (tabbed (instanceFields (record { T = now (t .entry); D = now (d .entry) })) ++ (10 ∷ []))) × (now (out .exit) ≡ written (now (out .entry)) at (tabbed (instanceFields (record { T = now (t .entry); D = now (d .entry) })) ++ (10 ∷ []))) × (r ≤ at + 21 * length (now (t .entry)) + 21 * length (now (d .entry)) + 1) ⌝ }
 {
     let after_t = field_writers::put_u64s(out, at, t);
-    let after_d = field_writers::put_i64s(out, after_t, d);
+    let after_d = lists::put_i64s(out, after_t, d);
     out[after_d] = 10;
     after_d + 1
+}
+
+// A tab and the word of a verdict, from `at` on; answers the place past it.
+fn put_verdict(out: &mut [u8], at: usize, verdict: Verdict) -> usize
+    requires { ⌜ at + 16 ≤ length (now out) ⌝ }
+    ensures { λ r. ⌜ (r ≡ at + length (tabbed (wordOf (verdictOf verdict) ∷ []))) × (now (out .exit) ≡ written (now (out .entry)) at (tabbed (wordOf (verdictOf verdict) ∷ []))) × (r ≤ at + 16) ⌝ }
+{
+    match verdict {
+        Verdict::Yes => field_writers::put_bytes(out, at, b"\tyes"),
+        Verdict::Norm => field_writers::put_bytes(out, at, b"\tnorm"),
+        Verdict::Commitment => field_writers::put_bytes(out, at, b"\tcommitment"),
+        Verdict::Refused(_) => field_writers::put_bytes(out, at, b"\trefused"),
+    }
 }
 
 // Writes the line of leaf `number` with its instance, and answers the line's length.
@@ -37,6 +53,6 @@ pub fn put_fold(out: &mut [u8], number: u64, verdict: Verdict, t: &[u64], d: &[i
 {
     let word = field_writers::put_bytes(out, 0, b"fold");
     let after_number = field_writers::put_number(out, word, number);
-    let at = report_words::put_verdict(out, after_number, verdict);
+    let at = put_verdict(out, after_number, verdict);
     put_instance(out, at, t, d)
 }

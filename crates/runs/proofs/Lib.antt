@@ -1,1 +1,5 @@
+pub mod ChallengeLines
+pub mod LeafLines
+pub mod Matrices
+pub mod Refusals
 mod Lines

@@ -5,6 +5,13 @@ ghost use lib.ListN.{length, take};
 ghost use Rattle.chain.specs.Chain.{takeLine};
 ghost use Rattle.states.specs.Lent.{Store, Sound, Lent, Roomy, stateOf, stepOf};
 ghost use Rattle.states.specs.declared.Due.the-variants as Dues;
+
+mod challenges;
+mod leaf_nodes;
+mod leaves;
+mod params;
+mod public_matrices;
+
 use challenges::Challenge;
 use leaves::Leaf;
 use params::Param;

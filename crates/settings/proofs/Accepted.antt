@@ -10,7 +10,7 @@ use borrow.Author.Tests.{eq-eqb, ne-eqb}
 use Rattle.settings.specs.declared.Checked.{Checked}
 use Rattle.settings.specs.Settings.{Parameters, limits, LOf, kOf, hOf, HOf, NOf, growthOf, repunit, widthOf, settingRefusal, settingOf, acceptedOf, refusedOf, checkedOf}
 use Rattle.settings.proofs.Refusals.{Meets, refusal-exactly}
-use Rattle.bounds.proofs.Powers.{pow-two}
+use Rattle.settings.proofs.PowerSteps.{pow-two}
 use Rattle.settings.proofs.Levels.{L-above}
 use Rattle.settings.proofs.Levels as Levels
 use Rattle.settings.proofs.Powers.{repunit-reaches}

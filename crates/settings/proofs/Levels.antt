@@ -8,7 +8,7 @@ use native.Mathlib.Nat.{pow-zero, pow-le-pow-left, pow-le-pow-right, eq-or-lt-of
 use lib.Dec.{T, leb, leb→le, le→leb, T-not, not-T}
 use lib.Pow.{pow-add}
 use Rattle.integers.proofs.Tests.{cond-ind, le-or-lt}
-use Rattle.bounds.proofs.Powers.{pow-two}
+use Rattle.settings.proofs.PowerSteps.{pow-two}
 use Rattle.settings.specs.Settings.{Parameters, places, greatest, LOf, kOf}
 
 -- a test that fails from its first failure on

@@ -1,3 +1,4 @@
+pub mod PowerSteps
 pub mod Rules
 pub mod Levels
 pub mod Powers

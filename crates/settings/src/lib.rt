@@ -4,6 +4,8 @@ ghost use mathlib.Core.Bool.{_&&_};
 ghost use Rattle.settings.specs.Settings.{within, limits, settingRefusal, refusedOf, checkedOf};
 ghost use Rattle.settings.specs.HouseList.{parameters, listedOf};
 
+mod bounds;
+
 // The five numbers of a setting, with what they fix: k digits to an entry, N columns of a digit witness, the powers of b.
 pub struct Setting {
     pub n: usize,

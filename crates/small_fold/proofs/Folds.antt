@@ -18,7 +18,7 @@ use Rattle.matrices.specs.Tables.{signed, challenge}
 use Rattle.small_rows.specs.Small.{Within}
 use Rattle.dots.specs.Dots.{dots}
 use Rattle.small_fold.specs.Padded.{Padded}
-use Rattle.packing.specs.Columns.{Columns}
+use Rattle.small_rows.specs.Columns.{Columns}
 
 -- row r of s in the place of the first n numbers
 module _ (s : List ℤ) (n r : ℕ) (p row : List ℤ) (w : Padded n p) (small : Within 1024 s) (e : row ≡ build n (signed n s r)) where

@@ -9,6 +9,8 @@ ghost use Rattle.small_rows.specs.Small.{Within, SmallMatrix};
 ghost use Rattle.dots.specs.Dots.{dots};
 ghost use Rattle.small_fold.specs.Padded.{Padded};
 
+mod packing;
+
 // The row p times the n numbers of q from y on, by steps of 32: past n the row has zeros.
 fn dot(p: &[i16], q: &[i16], y: usize, n: usize) -> i64
     requires { ⌜ Padded n (now p) × Within 1024 (now q) × (y + 512 ≤ length (now q)) ⌝ }

@@ -17,7 +17,7 @@ use Rattle.matrices.proofs.Matrices.{transposed-product}
 use Rattle.matrices.proofs.Tables.{row-within}
 use Rattle.matrices.proofs.Bounds.{product-bound}
 use Rattle.small_rows.specs.Small.{Within}
-use Rattle.packing.specs.Columns.{Columns}
+use Rattle.small_rows.specs.Columns.{Columns}
 use Rattle.small_rows.specs.Rows.{Added}
 use Rattle.small_gram.specs.Halves.{blockOf, UpperWithin, UpperAdded, Half, Mirrors}
 use Rattle.small_rows.proofs.Small.{within-list, zeros}

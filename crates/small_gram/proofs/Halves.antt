@@ -13,7 +13,7 @@ use Rattle.integers.proofs.Tests.{le-or-lt}
 use Rattle.matrices.specs.Matrices.{Matrix}
 use Rattle.matrices.specs.Tables.{table}
 use Rattle.matrices.proofs.Tables.{table-of}
-use Rattle.packing.proofs.Columns.{same-cell}
+use Rattle.small_rows.proofs.Columns.{same-cell}
 use Rattle.small_gram.specs.Halves.{Half}
 
 -- the entries below the diagonal are filled by rows

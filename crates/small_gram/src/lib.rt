@@ -9,6 +9,8 @@ ghost use Rattle.small_rows.specs.Small.{Within, SmallMatrix};
 ghost use Rattle.small_rows.specs.Rows.{Added};
 ghost use Rattle.small_gram.specs.Halves.{blockOf, UpperWithin, UpperAdded, Mirrors};
 
+mod packing;
+
 // Adds the products of the block's column i with the columns from i on to `row`, which begins on the diagonal.
 fn add_row(p: &[i16], i: usize, row: &mut [i64])
     requires { ⌜ Within 1024 (now p) × ((i + length (now row)) * 32 ≤ length (now p)) × Within (2 ^ 61) (now row) ⌝ }

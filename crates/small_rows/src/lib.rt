@@ -1,7 +1,11 @@
-// Rows of small signed numbers while a product is summed in them: the row of zeros that such a sum starts from.
+// Small signed numbers, of at most 1024 in size: the row of zeros that a sum of their products starts from, and an entry in
+// 16 bits.
 ghost use mathlib.Core.Path.{_≡_};
 ghost use lib.IntN.{pos};
 ghost use lib.ListN.{length, replicate};
+ghost use Prim.Native.Nat.{_<_};
+ghost use Rattle.matrices.specs.Tables.{signed};
+ghost use Rattle.small_rows.specs.Small.{SmallMatrix};
 
 // Fills d with zeros.
 pub fn clear(d: &mut [i64])
@@ -12,4 +16,12 @@ pub fn clear(d: &mut [i64])
         d[i] = 0;
         i += 1;
     }
+}
+
+// Row r and column c of s, or 0 past its last row.
+pub fn fetch(s: &[i64], m: usize, n: usize, r: usize, c: usize) -> i16
+    requires { ⌜ SmallMatrix m n (now s) × (c < n) ⌝ }
+    ensures { λ x. ⌜ x ≡ signed n (now (s .entry)) r c ⌝ }
+{
+    if r < m { s[r * n + c] as i16 } else { 0 }
 }

@@ -7,6 +7,8 @@ ghost use Rattle.matrices.specs.Matrices.{product};
 ghost use Rattle.matrices.specs.Tables.{table, signed, unsigned};
 ghost use Rattle.word_rows.specs.Rows.{rowTimes, Added};
 
+mod multiples;
+
 // Adds the row x times s to `row`, four rows of s a pass while four are left, and answers how many rows it took. A loop that
 // chose between four rows and one in every pass would be slower.
 fn add_fours(x: &[u64], s: &[i64], cols: usize, row: &mut [u64]) -> usize
@@ -17,7 +19,7 @@ fn add_fours(x: &[u64], s: &[i64], cols: usize, row: &mut [u64]) -> usize
     let mut start: usize = 0;
     while x.len() - k >= 4 {
         let end = start + 4 * cols;
-        word_rows::add_four_rows(&x[k..k + 4], &s[start..end], cols, row);
+        multiples::add_four_rows(&x[k..k + 4], &s[start..end], cols, row);
         start = end;
         k += 4;
     }
@@ -33,7 +35,7 @@ fn add_rows(x: &[u64], s: &[i64], cols: usize, row: &mut [u64])
     while k < x.len() {
         let start = k * cols;
         let end = start + cols;
-        word_rows::add_row(x[k], &s[start..end], row);
+        multiples::add_row(x[k], &s[start..end], row);
         k += 1;
     }
 }
@@ -99,7 +101,7 @@ fn times_column(x: &[u64], s: &[i64], m: usize, cols: usize, j: usize) -> u64
     let mut at = j;
     let mut k: usize = 0;
     while k < m {
-        sum = word_rows::add_product(sum, x[k], s[at]);
+        sum = multiples::add_product(sum, x[k], s[at]);
         at += cols;
         k += 1;
     }

@@ -6,7 +6,7 @@ use native.Mathlib.Omega.{arith}
 use lib.ListN.{length, length-set}
 use Rattle.numerals.specs.Numerals.{decimal}
 use Rattle.chain.specs.Reports.{refusedWord, refusedLine}
-use Rattle.report_words.proofs.Puts.{put-word, put-fields, put-end}
+use Rattle.field_writers.proofs.Puts.{put-word, put-fields, put-end}
 use Rattle.closing_reports.proofs.put_refused.Statement.{statement}
 use Rattle.closing_reports.proofs.put_refused.Tie as tie
 

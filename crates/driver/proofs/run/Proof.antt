@@ -5,7 +5,7 @@ use native.Mathlib.Omega.{arith}
 use lib.ListN.{length}
 use lib.Seq.{length-take-le}
 use Rattle.states.specs.Lent.{Lent, Roomy}
-use Rattle.feeds.specs.Feeds.{Steady}
+use Rattle.driver.specs.Feeds.{Steady}
 use borrow.Author.Needs.{needs}
 use Rattle.driver.proofs.run.Statement.{statement}
 use Rattle.driver.proofs.run.Tie as tie

@@ -19,7 +19,7 @@ use Rattle.lova.specs.Fold.{beside, gadget}
 use Rattle.lova.proofs.Tests.{eqb-iff}
 use Rattle.lova.proofs.Comparisons.{EqualBefore, equal-none, equal-more, equal-row, equal-all, unequal-at}
 use Rattle.lova.proofs.Rebuilding.{rebuilt-accepted}
-use Rattle.equations.proofs.Recomposition.{powers-long, block-within, block-sum}
+use Rattle.equations.proofs.Recomposed.{powers-long, block-within, block-sum}
 use Rattle.equations.proofs.commitment_holds.Statement.{statement}
 use Rattle.equations.proofs.commitment_holds.Tie as tie
 

@@ -18,7 +18,7 @@ use Rattle.lova.specs.Tests.{eqZ}
 use Rattle.lova.proofs.Tests.{eqZ-iff}
 use Rattle.lova.proofs.Comparisons.{EqualBefore, equal-none, equal-more, equal-row, equal-all, unequal-at, bits-iff}
 use Rattle.lova.proofs.Rebuilding.{rebuilt-accepted}
-use Rattle.equations.proofs.Recomposition.{powers-long, power-fits, block-below, rows-below, by-rows, block-fits, rows-fit}
+use Rattle.equations.proofs.Recomposed.{powers-long, power-fits, block-below, rows-below, by-rows, block-fits, rows-fit}
 use Rattle.equations.proofs.norm_holds.Statement.{statement}
 use Rattle.equations.proofs.norm_holds.Tie as tie
 

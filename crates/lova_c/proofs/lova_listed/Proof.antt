@@ -1,7 +1,7 @@
 -- `lova_c::lova_listed` meets its contract: 12, 7, or the row's numbers are written.
 use mathlib.Core.Path.{_∙_, ap}
 use Rattle.settings.specs.declared.Checked.{Checked}
-use Rattle.codes.specs.Given.{fiveOf}
+use Rattle.lova_c.specs.Given.{fiveOf}
 use Rattle.lova_c.proofs.Giving.{out-refused, out-seven, out-given}
 use Rattle.lova_c.proofs.lova_listed.Statement.{statement}
 use Rattle.lova_c.proofs.lova_listed.Tie as tie

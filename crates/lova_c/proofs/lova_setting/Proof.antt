@@ -2,7 +2,7 @@
 use borrow.Author.Needs.{needs}
 use mathlib.Core.Path.{_∙_, ap}
 use Rattle.settings.specs.declared.Checked.{Checked}
-use Rattle.codes.specs.Given.{workedOut}
+use Rattle.lova_c.specs.Given.{workedOut}
 use Rattle.lova_c.proofs.Giving.{powers-long, out-refused, out-seven, out-given}
 use Rattle.lova_c.proofs.lova_setting.Statement.{statement}
 use Rattle.lova_c.proofs.lova_setting.Tie as tie

@@ -2,7 +2,7 @@
 use mathlib.Core.Path.{_∙_, ap}
 use Rattle.settings.specs.Settings.{Parameters}
 use Rattle.lova.specs.Relation.{relation}
-use Rattle.codes.specs.Codes.{codeOf}
+use Rattle.lova_c.specs.Codes.{codeOf}
 use Rattle.lova_c.proofs.lova_test_relation.Statement.{statement}
 use Rattle.lova_c.proofs.lova_test_relation.Tie as tie
 

@@ -7,7 +7,7 @@ use lib.ListN.{length}
 use Rattle.numerals.specs.Numerals.{decimal}
 use Rattle.lova.specs.Answers.{verdictOf}
 use Rattle.chain.specs.Reports.{foldWord, wordOf, instanceFields, foldLine}
-use Rattle.report_words.proofs.Puts.{put-word, put-fields, put-rest}
+use Rattle.field_writers.proofs.Puts.{put-word, put-fields, put-rest}
 use Rattle.reports.proofs.put_fold.Statement.{statement}
 use Rattle.reports.proofs.put_fold.Tie as tie
 

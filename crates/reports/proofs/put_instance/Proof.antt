@@ -3,7 +3,7 @@ use borrow.Author.Needs.{needs}
 use mathlib.Core.Path.{_∙_}
 use native.Mathlib.Omega.{arith}
 use lib.ListN.{length-set}
-use Rattle.report_words.proofs.Puts.{instance-put}
+use Rattle.reports.proofs.Instances.{instance-put}
 use Rattle.reports.proofs.put_instance.Statement.{statement}
 use Rattle.reports.proofs.put_instance.Tie as tie
 

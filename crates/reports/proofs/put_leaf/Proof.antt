@@ -6,7 +6,7 @@ use native.Mathlib.Omega.{arith}
 use lib.ListN.{length}
 use Rattle.numerals.specs.Numerals.{decimal}
 use Rattle.chain.specs.Reports.{leafWord, instanceFields, leafLine}
-use Rattle.report_words.proofs.Puts.{put-word, put-fields, put-rest}
+use Rattle.field_writers.proofs.Puts.{put-word, put-fields, put-rest}
 use Rattle.reports.proofs.put_leaf.Statement.{statement}
 use Rattle.reports.proofs.put_leaf.Tie as tie
 

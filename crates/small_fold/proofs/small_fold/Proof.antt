@@ -12,7 +12,7 @@ use Rattle.matrices.specs.Matrices.{product}
 use Rattle.matrices.specs.Tables.{signed, challenge}
 use Rattle.matrices.proofs.Tables.{row-within, TableTo, table-none, table-part-of, table-all}
 use Rattle.small_fold.specs.Padded.{Padded}
-use Rattle.packing.specs.Columns.{Columns}
+use Rattle.small_rows.specs.Columns.{Columns}
 use Rattle.small_rows.proofs.Small.{zeros, within-zeros}
 use Rattle.small_fold.proofs.Folds.{padded-row, row-times}
 use Rattle.small_fold.proofs.small_fold.Statement.{statement}

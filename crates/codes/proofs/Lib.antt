@@ -1,2 +1,0 @@
-mod Writing
-pub mod Telling

@@ -1,0 +1,63 @@
+// Bytes of input, fed up to the end of a line. Nothing depends on how the input is cut into chunks.
+ghost use mathlib.Core.Path.{_≡_};
+ghost use Prim.Native.Nat.{_^_, _<_};
+ghost use lib.ListN.{length, take};
+ghost use Rattle.chain.specs.Program.{feedAll, feedOutput};
+ghost use Rattle.states.specs.Lent.{Lent, Roomy};
+ghost use Rattle.driver.specs.Feeds.{feedingOf, Steady};
+ghost use Rattle.driver.specs.Readings.{FedWithin};
+use crate::feeds::Feed;
+
+// The feed after a part of a chunk: how many bytes of the chunk were used, and how many bytes of output came of them.
+pub(crate) struct Fed {
+    pub feed: Feed,
+    pub used: usize,
+    pub length: usize,
+}
+
+// Takes bytes of a chunk up to the end of a line, or all of it.
+pub(crate) fn read(
+    feed: Feed,
+    chunk: &[u8],
+    line: &mut [u8],
+    a: &mut [u64],
+    t1: &mut [u64],
+    d1: &mut [i64],
+    s1: &mut [i64],
+    t2: &mut [u64],
+    d2: &mut [i64],
+    s2: &mut [i64],
+    out: &mut [u8],
+) -> Fed
+    requires { ⌜ Steady feed (now line) × (feed .run .line < 2 ^ 62) × Roomy (now out) ⌝ }
+    requires { ⌜ Lent (record { A = now a; T₁ = now t1; D₁ = now d1; S₁ = now s1; T₂ = now t2; D₂ = now d2; S₂ = now s2 }) ⌝ }
+    ensures { λ r. ⌜ feedingOf (r .feed) (now (line .exit)) (record { A = now (a .exit); T₁ = now (t1 .exit); D₁ = now (d1 .exit); S₁ = now (s1 .exit); T₂ = now (t2 .exit); D₂ = now (d2 .exit); S₂ = now (s2 .exit) }) ≡ feedAll (feedingOf feed (now (line .entry)) (record { A = now (a .entry); T₁ = now (t1 .entry); D₁ = now (d1 .entry); S₁ = now (s1 .entry); T₂ = now (t2 .entry); D₂ = now (d2 .entry); S₂ = now (s2 .entry) })) (take (r .used) (now (chunk .entry))) ⌝ }
+    ensures { λ r. ⌜ take (r .length) (now (out .exit)) ≡ feedOutput (feedingOf feed (now (line .entry)) (record { A = now (a .entry); T₁ = now (t1 .entry); D₁ = now (d1 .entry); S₁ = now (s1 .entry); T₂ = now (t2 .entry); D₂ = now (d2 .entry); S₂ = now (s2 .entry) })) (take (r .used) (now (chunk .entry))) ⌝ }
+    ensures { λ r. ⌜ FedWithin r feed (now (line .exit)) (length (now (chunk .entry))) ⌝ }
+{
+    let run = feed.run;
+    let cut = crate::cuts::cut_line(chunk, line, feed.length);
+    let length = cut.length;
+    if !cut.ended {
+        let next = Feed {
+            run: run,
+            length: length,
+        };
+        return Fed {
+            feed: next,
+            used: cut.used,
+            length: 0,
+        };
+    }
+    let taken = runs::take(run, &line[..length], a, t1, d1, s1, t2, d2, s2, out);
+    let after = taken.run;
+    let next = Feed {
+        run: after,
+        length: 0,
+    };
+    Fed {
+        feed: next,
+        used: cut.used,
+        length: taken.length,
+    }
+}

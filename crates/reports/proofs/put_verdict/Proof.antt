@@ -1,0 +1,111 @@
+-- `reports::put_verdict` meets its contract: the word of each answer.
+use borrow.Author.Needs.{needs}
+use mathlib.Core.Path.{ap}
+use mathlib.Core.List.{[], _∷_}
+use native.Mathlib.Omega.{arith}
+use Rattle.lova.specs.Answers.{verdictOf}
+use Rattle.chain.specs.Reports.{wordOf}
+use Rattle.field_writers.proofs.Puts.{word-put}
+use Rattle.reports.proofs.put_verdict.Statement.{statement}
+use Rattle.reports.proofs.put_verdict.Tie as tie
+
+enum-told : tie.Need-enum-told
+enum-told c = search needs
+
+slice-aggregate-put-bytes : tie.Need-slice-aggregate-put-bytes
+slice-aggregate-put-bytes c = search needs
+
+put-bytes-requires : tie.Need-put-bytes-requires
+put-bytes-requires c κs = search needs
+
+enum-told-2 : tie.Need-enum-told-2
+enum-told-2 c = search needs
+
+slice-aggregate-put-bytes-2 : tie.Need-slice-aggregate-put-bytes-2
+slice-aggregate-put-bytes-2 c = search needs
+
+put-bytes-requires-2 : tie.Need-put-bytes-requires-2
+put-bytes-requires-2 c κs = search needs
+
+enum-told-3 : tie.Need-enum-told-3
+enum-told-3 c = search needs
+
+slice-aggregate-put-bytes-3 : tie.Need-slice-aggregate-put-bytes-3
+slice-aggregate-put-bytes-3 c = search needs
+
+put-bytes-requires-3 : tie.Need-put-bytes-requires-3
+put-bytes-requires-3 c κs = search needs
+
+enum-told-4 : tie.Need-enum-told-4
+enum-told-4 c = search needs
+
+slice-aggregate-put-bytes-4 : tie.Need-slice-aggregate-put-bytes-4
+slice-aggregate-put-bytes-4 c = search needs
+
+put-bytes-requires-4 : tie.Need-put-bytes-requires-4
+put-bytes-requires-4 c κs = search needs
+
+same-length : tie.Need-same-length
+same-length c = search needs
+
+returns : tie.Need-returns
+unfolding wordOf verdictOf
+returns c =
+    let s = c .before .before .before .before .before .before .before .before .args in
+    word-put (s .out .now) (c .before .before .put-bytes .last .0) (wordOf (verdictOf (s .verdict))) (121 ∷ 101 ∷ 115 ∷ []) (s .at) (c .before .before .put-bytes .result)
+    (ap (λ v. wordOf (verdictOf v)) (c .before .before .before .before .before .enum-told .given .1)) (omega arith) (c .before .before .put-bytes .ensures)
+
+same-length-2 : tie.Need-same-length-2
+same-length-2 c = search needs
+
+returns-2 : tie.Need-returns-2
+unfolding wordOf verdictOf
+returns-2 c =
+    let s = c .before .before .before .before .before .before .before .before .args in
+    word-put (s .out .now) (c .before .before .put-bytes2 .last .0) (wordOf (verdictOf (s .verdict))) (110 ∷ 111 ∷ 114 ∷ 109 ∷ []) (s .at) (c .before .before .put-bytes2 .result)
+    (ap (λ v. wordOf (verdictOf v)) (c .before .before .before .before .before .enum-told2 .given .1)) (omega arith) (c .before .before .put-bytes2 .ensures)
+
+same-length-3 : tie.Need-same-length-3
+same-length-3 c = search needs
+
+returns-3 : tie.Need-returns-3
+unfolding wordOf verdictOf
+returns-3 c =
+    let s = c .before .before .before .before .before .before .before .before .args in
+    word-put (s .out .now) (c .before .before .put-bytes3 .last .0) (wordOf (verdictOf (s .verdict))) (99 ∷ 111 ∷ 109 ∷ 109 ∷ 105 ∷ 116 ∷ 109 ∷ 101 ∷ 110 ∷ 116 ∷ []) (s .at) (c .before .before .put-bytes3 .result)
+    (ap (λ v. wordOf (verdictOf v)) (c .before .before .before .before .before .enum-told3 .given .1)) (omega arith) (c .before .before .put-bytes3 .ensures)
+
+same-length-4 : tie.Need-same-length-4
+same-length-4 c = search needs
+
+returns-4 : tie.Need-returns-4
+unfolding wordOf verdictOf
+returns-4 c =
+    let s = c .before .before .before .before .before .before .before .before .args in
+    word-put (s .out .now) (c .before .before .put-bytes4 .last .0) (wordOf (verdictOf (s .verdict))) (114 ∷ 101 ∷ 102 ∷ 117 ∷ 115 ∷ 101 ∷ 100 ∷ []) (s .at) (c .before .before .put-bytes4 .result)
+    (ap (λ v. wordOf (verdictOf v)) (c .before .before .before .before .before .enum-told4 .given .1)) (omega arith) (c .before .before .put-bytes4 .ensures)
+
+pub put-verdict-spec : {M : Type 1} → statement M
+put-verdict-spec =
+    tie.close
+    (tie.spec
+    enum-told
+    slice-aggregate-put-bytes
+    put-bytes-requires
+    enum-told-2
+    slice-aggregate-put-bytes-2
+    put-bytes-requires-2
+    enum-told-3
+    slice-aggregate-put-bytes-3
+    put-bytes-requires-3
+    enum-told-4
+    slice-aggregate-put-bytes-4
+    put-bytes-requires-4
+    same-length
+    returns
+    same-length-2
+    returns-2
+    same-length-3
+    returns-3
+    same-length-4
+    returns-4)

@@ -1,0 +1,80 @@
+// The record `c`. A line that is refused changes no matrix.
+ghost use mathlib.Core.Path.{_≡_};
+ghost use Prim.Native.Nat.{_+_, _^_, _≤_, _<_};
+ghost use lib.ListN.{length};
+ghost use Rattle.settings.specs.Settings.{parametersOf};
+ghost use Rattle.text.specs.Fields.{recordOf, readTernary};
+ghost use Rattle.lova.specs.Stored.{sizeC};
+ghost use Rattle.chain.specs.Chain.{onChallenge, cWord};
+ghost use Rattle.states.specs.Lent.{Sound, Set, Lent, Roomy, countsOf, stepOf, partA, partNode};
+ghost use Rattle.states.specs.declared.Due.the-variants as Dues;
+use lova::Verdict;
+use states::Due;
+use states::Run;
+use states::Taken;
+
+// The record `c`: the run state goes in with it, and is handed back with what comes of its line.
+pub(crate) struct Challenge {
+    pub run: Run,
+}
+
+impl Challenge {
+    // `c` with N×t entries: the fold of the accumulated node t1, d1, s1 with the new leaf t2, d2, s2.
+    pub(crate) fn take(
+        self,
+        line: &[u8],
+        a: &[u64],
+        t1: &mut [u64],
+        d1: &mut [i64],
+        s1: &mut [i64],
+        t2: &[u64],
+        d2: &[i64],
+        s2: &[i64],
+        out: &mut [u8],
+    ) -> Taken
+        requires { ⌜ Sound (self .run) × (self .run .line < 2 ^ 62) × Roomy (now out) ⌝ }
+        requires { ⌜ Set (self .run .setting) ⌝ }
+        requires { ⌜ Lent (record { A = now a; T₁ = now t1; D₁ = now d1; S₁ = now s1; T₂ = now t2; D₂ = now d2; S₂ = now s2 }) ⌝ }
+        ensures { λ r. ⌜ stepOf r (record { A = now (a .entry); T₁ = now (t1 .exit); D₁ = now (d1 .exit); S₁ = now (s1 .exit); T₂ = now (t2 .entry); D₂ = now (d2 .entry); S₂ = now (s2 .entry) }) (now (out .exit)) ≡ onChallenge (countsOf (self .run)) (parametersOf (self .run .setting)) (partA (parametersOf (self .run .setting)) (now (a .entry))) (partNode (parametersOf (self .run .setting)) (now (t1 .entry)) (now (d1 .entry)) (now (s1 .entry))) (partNode (parametersOf (self .run .setting)) (now (t2 .entry)) (now (d2 .entry)) (now (s2 .entry))) (recordOf readTernary cWord (sizeC (parametersOf (self .run .setting))) (now (line .entry))) ⌝ }
+        ensures { λ r. ⌜ Sound (r .run) × (r .run .line ≤ self .run .line + 1) × (r .length ≤ 512) ⌝ }
+        ensures { λ r. ⌜ (r .run .due ≡ Dues.Nothing → (now (t1 .exit) ≡ now (t1 .entry)) × (now (d1 .exit) ≡ now (d1 .entry)) × (now (s1 .exit) ≡ now (s1 .entry))) ⌝ }
+    {
+        let state = self.run;
+        let setting = state.setting;
+        let size_a = setting.n * setting.m;
+        let size_t = setting.n * setting.t;
+        let size_d = setting.t * setting.t;
+        let size_s = setting.m * setting.t;
+        let size_c = setting.columns * setting.t;
+        let mut read = [0u8; 64];
+        if !ternary_readers::read_ternary(line, b"c", &mut read[..size_c]) {
+            return state.refuse(13, out);
+        }
+        let answer = fold_nodes::fold(
+            setting,
+            &a[..size_a],
+            &mut t1[..size_t],
+            &mut d1[..size_d],
+            &mut s1[..size_s],
+            &t2[..size_t],
+            &d2[..size_d],
+            &s2[..size_s],
+            &read[..size_c],
+        );
+        if let Verdict::Refused(number) = answer {
+            return state.refuse(number, out);
+        }
+        let length = reports::put_fold(out, state.folds + 1, answer, &t1[..size_t], &d1[..size_d]);
+        let run = Run {
+            due: Due::Leaf,
+            line: state.line + 1,
+            leaves: state.leaves,
+            folds: state.folds + 1,
+            setting: setting,
+        };
+        Taken {
+            run: run,
+            length: length,
+        }
+    }
+}

@@ -1,0 +1,42 @@
+// A leaf of a chain, by commit. Settings are those that the chain program takes, so that all matrices stand in local arrays.
+ghost use mathlib.Core.Path.{_≡_};
+ghost use mathlib.Core.Bool.{true};
+ghost use Rattle.settings.specs.Settings.{parametersOf};
+ghost use Rattle.lova.specs.Answers.{ends, answerOf};
+ghost use Rattle.lova.specs.Stored.{matrixT, matrixS, matrixD};
+ghost use Rattle.lova.specs.Calls.{Rebuilt, Fits};
+ghost use Rattle.chain.specs.Limits.{small, programLimits};
+ghost use Rattle.chain.specs.Nodes.{nodeOf, leafOf};
+use lova::Answer;
+use settings::Setting;
+
+// Makes the node t, d, w a leaf with the witness s; a refusal leaves it as it was.
+pub(crate) fn leaf(
+    setting: Setting,
+    a: &[u64],
+    s: &[i64],
+    t: &mut [u64],
+    d: &mut [i64],
+    w: &mut [i64],
+) -> Answer
+    requires { ⌜ Rebuilt setting ⌝ }
+    requires { ⌜ small programLimits (parametersOf setting) ≡ true ⌝ }
+    requires { ⌜ Fits (matrixS (parametersOf setting)) (now s) ⌝ }
+    requires { ⌜ Fits (matrixT (parametersOf setting)) (now t) × Fits (matrixD (parametersOf setting)) (now d) × Fits (matrixS (parametersOf setting)) (now w) ⌝ }
+    ensures { λ r. ⌜ ends (answerOf r) (nodeOf (now (t .exit)) (now (d .exit)) (now (w .exit))) ≡ leafOf (parametersOf setting) (now (a .entry)) (now (s .entry)) (nodeOf (now (t .entry)) (now (d .entry)) (now (w .entry))) ⌝ }
+{
+    let mut made_t = [0u64; 16];
+    let mut made_d = [0i64; 4];
+    let size_t = setting.n * setting.t;
+    let size_d = setting.t * setting.t;
+    let answer = commitments::commit(setting, a, s, &mut made_t[..size_t], &mut made_d[..size_d]);
+    match answer {
+        Answer::Refused(number) => Answer::Refused(number),
+        Answer::Done => {
+            copies::copy_words(&made_t[..size_t], t);
+            copies::copy_wholes(&made_d[..size_d], d);
+            copies::copy_wholes(s, w);
+            Answer::Done
+        }
+    }
+}
