@@ -1,8 +1,8 @@
 /* One fold in setting 1 of the house list: commits 7 and -5 under A = 3, folds them and prints T', D' and S', that is
  * 15 25 5.
  *
- *   rt staticlib lova_c
- *   gcc -Icrates/lova_c/include examples/fold.c target/staticlib/liblova_c.a -o target/fold && target/fold
+ *   bindings/archive
+ *   gcc -Iinclude examples/fold.c target/lova/liblova.a -o target/fold && target/fold
  */
 #include <inttypes.h>
 #include <stdio.h>
@@ -11,9 +11,9 @@
 
 static int failed(const char *call, uint8_t code)
 {
-    if (code != 0)
+    if (code != LOVA_DONE)
         fprintf(stderr, "%s: %d\n", call, (int)code);
-    return code != 0;
+    return code != LOVA_DONE;
 }
 
 int main(void)
@@ -35,6 +35,14 @@ int main(void)
         || failed("verify", lova_verify(p[0], p[1], p[2], p[3], p[4], t1, 1, d1, 1, t2, 1, d2, 1, v, 1, tt, 10, dd, 100, c, 10, t, 1, d, 1))
         || failed("test_relation", lova_test_relation(p[0], p[1], p[2], p[3], p[4], a, 1, t, 1, d, 1, s, 1)))
         return 1;
+
+    /* A witness with an entry above 10 is too long, and a C of 9 bytes too short. */
+    const int64_t above[1] = {11};
+    if (lova_commit(p[0], p[1], p[2], p[3], p[4], a, 1, above, 1, t1, 1, d1, 1) != LOVA_LONG_COLUMN
+        || lova_fold_witness(p[0], p[1], p[2], p[3], p[4], ss, 10, c, 9, s, 1) != LOVA_LENGTH) {
+        fprintf(stderr, "a call was not refused\n");
+        return 1;
+    }
 
     printf("%" PRIu64 " %" PRId64 " %" PRId64 "\n", t[0], d[0], s[0]);
     return 0;

@@ -7,6 +7,7 @@ use std::fmt;
 ///
 /// A refused call has written nothing.
 #[derive(Clone, Copy, Debug, PartialEq, Eq, PartialOrd, Ord, Hash)]
+#[non_exhaustive]
 #[repr(u8)]
 pub enum Refusal {
     /// n, m or t is out of range.
@@ -90,6 +91,7 @@ pub type Answer = Result<(), Refusal>;
 /// The verdict on a fold.
 #[derive(Clone, Copy, Debug, PartialEq, Eq, Hash)]
 #[must_use]
+#[non_exhaustive]
 pub enum Verdict {
     /// Both equations hold; T' and D' were written.
     Yes,
@@ -102,6 +104,7 @@ pub enum Verdict {
 /// Whether a witness belongs to an instance.
 #[derive(Clone, Copy, Debug, PartialEq, Eq, Hash)]
 #[must_use]
+#[non_exhaustive]
 pub enum Membership {
     /// It does.
     Member,
@@ -163,6 +166,30 @@ mod tests {
             assert_eq!(answer(refused.number()), Err(refused));
             assert_eq!(verdict(refused.number()), Err(refused));
             assert_eq!(membership(refused.number()), Err(refused));
+        }
+    }
+
+    /// The code that the C header gives a name.
+    fn in_header(name: &str) -> Option<u8> {
+        include_str!("../../include/lova.h").lines().find_map(|line| {
+            let (named, rest) = line.trim().strip_prefix("LOVA_")?.split_once(" = ")?;
+            let number = rest.split(|mark: char| !mark.is_ascii_digit()).next()?;
+            named.replace('_', "").eq_ignore_ascii_case(name).then(|| number.parse().ok())?
+        })
+    }
+
+    #[test]
+    fn the_header_has_the_same_codes() {
+        let code = |name: &str| in_header(name).unwrap_or_else(|| panic!("lova.h has no {name}"));
+        for refused in REFUSALS {
+            assert_eq!(code(&format!("{refused:?}")), refused.number());
+        }
+        assert_eq!(answer(code("Done")), Ok(()));
+        for word in [Verdict::Norm, Verdict::Commitment] {
+            assert_eq!(verdict(code(&format!("{word:?}"))), Ok(word));
+        }
+        for word in [Membership::Long, Membership::Products, Membership::Commitment] {
+            assert_eq!(membership(code(&format!("{word:?}"))), Ok(word));
         }
     }
 

@@ -1,10 +1,11 @@
-//! Lova folding at q = 2^64: safe functions over the proved static library `liblova_c.a`.
+//! Lova folding at q = 2^64: safe functions over the proved static library `liblova.a`.
 //!
 //! Matrices are lent as slices, by rows, and nothing is allocated. A refused call, and a verdict
 //! other than yes, leaves every output as it was. The lengths are those of the specification:
 //! A is n by m, T n by t, S m by t, D and V t by t, S~ m by N, T~ n by N, D~ N by N, C N by t.
 //!
-//! Build the archive with `rt staticlib lova_c`; `LOVA_STATICLIB` names another folder for it.
+//! Build the archive with `bindings/archive`; `LOVA_STATICLIB` names another folder for it. The enums may
+//! get cases later, so a `match` outside this crate needs an arm `_`.
 //!
 //! ```
 //! let setting = lova::Setting::listed(1)?;

@@ -36,8 +36,14 @@ pub struct Record {
 }
 
 impl Setting {
+    /// The setting with these five numbers, or the first of the refusals 1 to 6 that applies.
+    pub fn new(n: u64, m: u64, t: u64, b: u64, bound: u64) -> Result<Setting, Refusal> {
+        let setting = Setting::unchecked(n, m, t, b, bound);
+        setting.record().map(|_| setting)
+    }
+
     /// The setting with these five numbers, whether it is an accepted one or not.
-    pub const fn new(n: u64, m: u64, t: u64, b: u64, bound: u64) -> Setting {
+    pub const fn unchecked(n: u64, m: u64, t: u64, b: u64, bound: u64) -> Setting {
         Setting { n, m, t, b, bound }
     }
 

@@ -2,7 +2,7 @@
 
 use lova::{Membership, Record, Refusal, Setting, Verdict, RECORD};
 
-const ONE: Setting = Setting::new(1, 1, 1, 2, 100);
+const ONE: Setting = Setting::unchecked(1, 1, 1, 2, 100);
 const C: [u8; 10] = [1, 1, 1, 0, 0, 2, 0, 2, 0, 0];
 
 /// V, T~, D~ and S~ of the printed fold: 7 and −5 with A = 3.
@@ -24,9 +24,11 @@ fn judged(dd: &[i64], tt: &[u64], c: &[u8]) -> (Result<Verdict, Refusal>, u64, i
 fn settings_and_the_list() {
     let Record { k, columns, powers } = ONE.record().unwrap();
     assert_eq!((k, columns, &powers[..6]), (5, 10, &[1, 2, 4, 8, 16, 0][..]));
-    assert_eq!(Setting::new(1, 1, 1, 2, 99).record(), Err(Refusal::Growth));
+    assert_eq!(Setting::new(1, 1, 1, 2, 100), Ok(ONE));
+    assert_eq!(Setting::new(1, 1, 1, 2, 99), Err(Refusal::Growth));
+    assert_eq!(Setting::unchecked(1, 1, 1, 2, 99).record(), Err(Refusal::Growth));
     assert_eq!(Setting::listed(1), Ok(ONE));
-    assert_eq!(Setting::listed(4), Ok(Setting::new(16, 256, 1, 64, 16777216)));
+    assert_eq!(Setting::listed(4), Setting::new(16, 256, 1, 64, 16777216));
     assert_eq!(Setting::listed(5), Err(Refusal::Unlisted));
     let mut short = [9; RECORD - 1];
     assert_eq!(lova::write_record(ONE, &mut short), Err(Refusal::Length));

@@ -181,6 +181,7 @@ fn judged(verdict: Result<Verdict, Refusal>) -> Answer {
         Verdict::Yes => Answer::Yes,
         Verdict::Norm => Answer::Norm,
         Verdict::Commitment => Answer::Commitment,
+        other => unreachable!("the reference has no verdict {other:?}"),
     };
     verdict.map_or_else(refused, word)
 }
@@ -192,6 +193,7 @@ fn related(membership: Result<Membership, Refusal>) -> Answer {
         Membership::Long => Answer::Long,
         Membership::Products => Answer::Products,
         Membership::Commitment => Answer::Commitment,
+        other => unreachable!("the reference has no membership {other:?}"),
     };
     membership.map_or_else(refused, word)
 }
@@ -199,7 +201,7 @@ fn related(membership: Result<Membership, Refusal>) -> Answer {
 impl Call {
     /// The answer of the static library, with its outputs in these slices.
     fn by_library(&self, written: &mut [Slice]) -> Answer {
-        let p = Setting::new(self.p.n, self.p.m, self.p.t, self.p.b, self.p.bound);
+        let p = Setting::unchecked(self.p.n, self.p.m, self.p.t, self.p.b, self.p.bound);
         match (self.operation, &self.read[..], written) {
             (Operation::Commit, [Words(a), Numbers(s)], [Words(t), Numbers(d)]) => {
                 answered(lova::commit(p, a, s, lent(t), lent(d)))

@@ -51,8 +51,11 @@ fn records() {
         let length = length(&mut rng, RECORD);
         let noise = noise(&mut rng, length);
         let mut record = noise.clone();
-        let answer = write_record(Setting::new(p.n, p.m, p.t, p.b, p.bound), &mut record);
+        let setting = Setting::unchecked(p.n, p.m, p.t, p.b, p.bound);
+        let answer = write_record(setting, &mut record);
         let number = compare((answer, record), noise, expected_record(&p, length), &format!("{p:?}"));
+        let checked = Setting::new(p.n, p.m, p.t, p.b, p.bound).map_err(|refused| refused.number().into());
+        assert_eq!(checked, if refusal(&p) == 0 { Ok(setting) } else { Err(refusal(&p)) }, "seed {}: {p:?}", seed());
         tally.case(&outcome(number));
         if refusal(&p) == 0 {
             note_borders(&mut tally, &p);
@@ -95,7 +98,7 @@ fn house_list() {
     }
     for (row, p) in LIST.iter().enumerate() {
         let setting = Setting::listed(row as u64 + 1).expect("a row of the list");
-        assert_eq!(setting, Setting::new(p.n, p.m, p.t, p.b, p.bound));
+        assert_eq!(Ok(setting), Setting::new(p.n, p.m, p.t, p.b, p.bound));
         let record = setting.record().expect("an accepted setting");
         assert_eq!((record.k, record.columns as u128, record.powers), (p.k(), p.columns(), p.powers()));
     }

@@ -97,7 +97,7 @@ impl Grower<'_> {
 
 /// Grow a tree by the library and hold it against the plain tree; the number of folds.
 fn check(rng: &mut Rng, p: &Parameters, tree: &Tree) -> usize {
-    let setting = Setting::new(p.n, p.m, p.t, p.b, p.bound);
+    let setting = Setting::new(p.n, p.m, p.t, p.b, p.bound).expect("an accepted setting");
     let mut grower = Grower { p: setting, z: &shaped(p), a: words(rng, (p.n * p.m) as usize), folds: 0 };
     let root = grower.grow(tree);
     assert_eq!(Some(&root.s), plain(p, tree).as_ref(), "seed {}: the root at {p:?}", seed());

@@ -1,17 +1,16 @@
 -- By bytes or by lines, and in whatever chunks: the program prints the same.
+use borrow.Author.Tests.{lt-leb}
 use mathlib.Core.Path.{_≡_, refl, sym, _∙_, ap, ap₂}
 use mathlib.Core.Bool.{Bool, true, false, not, cond, true≢false}
 use mathlib.Core.List.{List, [], _∷_, _++_, append-assoc, append-nil}
 use Prim.Native.Nat.{ℕ, _+_, _≤_, _<_}
 use native.Mathlib.Omega.{arith}
-use lib.Arith.{lt→nleb}
 use lib.Dec.{T, leb, ltb, eqb, eqb→eq, ltb→lt, nltb→le}
 use lib.ListN.{length, length-append}
-use Rattle.integers.proofs.Tests.{true-is}
-use Rattle.lova.proofs.Numbers.{failed-test, true-T}
+use Rattle.lova.proofs.Numbers.{true-T}
 use Rattle.numerals.specs.Bytes.{lacks}
 use Rattle.text.specs.Fields.{onto, cutAt}
-use Rattle.chain.specs.Chain.{State, Counts, Stage, param, matrix, first, leaf, challenge, stopped, Step, step, takeDue, badLine, takeLine, endDue, atEnd, longestLine}
+use Rattle.chain.specs.Chain.{State, Counts, Stage, stopped, Step, step, refuse, takeDue, isStopped, badLine, takeLine, endDue, atEnd, longestLine}
 use Rattle.chain.specs.Program.{lines, printed, program, Feeding, Fed, unfed, ended, feedByte, feedAll, feedOutput, feedEnd, chunked, whole}
 
 -- ---- tests
@@ -72,12 +71,11 @@ lacks-more (x ∷ p) b l e = lacks-one (eqb x 10) (lacks 10 p) (lacks 10 (p ++ (
 -- a bad line stops the run
 bad-stops : (n : Counts) (s : Stage) → badLine n s .state .stage ≡ stopped
 unfolding badLine
-bad-stops n param = refl
-bad-stops n (matrix p) = refl
-bad-stops n (first p A) = refl
-bad-stops n (leaf p A a) = refl
-bad-stops n (challenge p A a new) = refl
-bad-stops n stopped = refl
+bad-stops n s = by (isStopped s)
+  where
+    by : (c : Bool) → (cond c (step n stopped []) (refuse n 13)) .state .stage ≡ stopped
+    by true = refl
+    by false = refl
 
 same-either : {A : Type 0} (c : Bool) (x : A) → cond c x x ≡ x
 same-either true x = refl
@@ -85,11 +83,11 @@ same-either false x = refl
 
 -- a run that has stopped stays so, and prints nothing
 pub takes-nothing : (s : State) (line : List ℕ) → s .stage ≡ stopped → takeLine s line ≡ step (s .counts) stopped []
-unfolding takeLine takeDue badLine
+unfolding takeLine takeDue isStopped badLine
 takes-nothing s line e = rw e (same-either (leb (length line) longestLine) (step (s .counts) stopped []))
 
 prints-nothing : (s : State) (ps : List (List ℕ)) → s .stage ≡ stopped → printed s ps ≡ []
-unfolding printed atEnd endDue badLine
+unfolding printed atEnd endDue isStopped badLine
 prints-nothing s [] e = refl
 prints-nothing s ([] ∷ []) e = rw e refl
 prints-nothing s ((x ∷ rest) ∷ []) e = rw e refl
@@ -108,7 +106,7 @@ fed-stopped f b e = by (eqb b 10) (ltb (length (f .pending)) longestLine)
     by false false = rw (takes-nothing (f .state) (f .pending ++ (b ∷ [])) e) (refl, refl)
 
 feeds-nothing : (f : Feeding) (bs : List ℕ) → f .state .stage ≡ stopped → feedOutput f bs ++ feedEnd (feedAll f bs) ≡ []
-unfolding feedOutput feedAll atEnd endDue badLine
+unfolding feedOutput feedAll atEnd endDue isStopped badLine
 feeds-nothing f [] e = at-end (f .pending)
   where
     at-end : (p : List ℕ) → atEnd (f .state) p ≡ []
@@ -127,7 +125,7 @@ printed-more s line ps more h e = rw e refl
 -- a line that is too long
 too-long : (s : State) (line : List ℕ) → longestLine < length line → takeLine s line ≡ badLine (s .counts) (s .stage)
 unfolding takeLine
-too-long s line h = rw (failed-test (leb (length line) longestLine) (true-is (not (leb (length line) longestLine)) (lt→nleb (length line) longestLine h))) refl
+too-long s line h = rw (lt-leb (length line) longestLine h) refl
 
 -- the first part is too long: its refusal is all that is printed
 printed-bad : (s : State) (line : List ℕ) (ps : List (List ℕ)) → longestLine < length line → printed s (line ∷ ps) ≡ badLine (s .counts) (s .stage) .output

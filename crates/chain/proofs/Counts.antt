@@ -19,8 +19,8 @@ use Rattle.lova.specs.Commit.{commit}
 use Rattle.chain.specs.Limits.{programRules}
 use Rattle.chain.specs.Nodes.{Node, blankInstance, refuses, foldOf}
 use Rattle.chain.specs.Reports.{leafWord}
-use Rattle.chain.specs.Chain.{State, Counts, Stage, param, matrix, first, leaf, challenge, stopped, Step, step, start, fromFive, onSetting, onParam, onMatrix, onLeaf, onChallenge, takeDue, badLine, takeLine, longestLine, paramWord, aWord, cWord}
-use Rattle.chain.specs.Program.{stateAfter, isStopped, taken, firstIs, countC}
+use Rattle.chain.specs.Chain.{State, Counts, Stage, param, matrix, first, leaf, challenge, stopped, Step, start, fromFive, onSetting, onParam, onMatrix, onLeaf, onChallenge, takeDue, isStopped, badLine, takeLine, longestLine, paramWord, aWord, cWord}
+use Rattle.chain.specs.Program.{stateAfter, taken, firstIs, countC}
 use Rattle.chain.proofs.Bytes.{takes-nothing}
 
 -- a line that is a record begins with its word
@@ -102,12 +102,7 @@ module _ (n : Counts) (line : List ℕ) where
 
   counted-bad : (s : Stage) → Counted n line (badLine n s)
   unfolding badLine
-  counted-bad param = inl (refl, refl)
-  counted-bad (matrix p) = inl (refl, refl)
-  counted-bad (first p A) = inl (refl, refl)
-  counted-bad (leaf p A acc) = inl (refl, refl)
-  counted-bad (challenge p A acc new) = inl (refl, refl)
-  counted-bad stopped = inl (refl, refl)
+  counted-bad s = counted-either (isStopped s) _ _ (inl (refl, refl)) (inl (refl, refl))
 
 counted-line : (s : State) (line : List ℕ) → Counted (s .counts) line (takeLine s line)
 unfolding takeLine

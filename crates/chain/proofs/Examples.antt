@@ -1,13 +1,12 @@
 -- The definitions, computed: the example that document 01 prints, and a refusal of each kind.
 use mathlib.Core.Path.{_≡_, refl}
-use mathlib.Core.List.{List, [], _∷_}
-use Prim.Native.Nat.{ℕ}
+use mathlib.Core.List.{[], _∷_}
 use Rattle.integers.specs.Lists.{build}
 use Rattle.integers.specs.Sums.{sum, sumℕ}
 use Rattle.integers.specs.Residues.{residue}
 use Rattle.matrices.specs.Tables.{table, ternary}
 use Rattle.settings.specs.Rules.{firstOf}
-use Rattle.settings.specs.Settings.{greatest, LOf, repunit}
+use Rattle.settings.specs.Settings.{kOf, greatest, LOf, repunit}
 use Rattle.digits.specs.Digits.{stepOf, restOf, digitOf}
 use Rattle.lova.specs.Answers.{unlessRefused}
 use Rattle.lova.specs.Tests.{all, every, eqZ, short, areTernary}
@@ -20,10 +19,10 @@ use Rattle.lova.specs.Witness.{witnessRules, foldedWitness, witness}
 use Rattle.numerals.specs.Numerals.{isDigit, areDigits, isPlain, valueFrom, naturalFrom, natural, withoutMinus, withMinus, integer, fitUnsigned, fitSigned, readUnsigned, readSigned, unsignedOf, signedOf, decimalIn, decimal, decimalZ}
 use Rattle.text.specs.Fields.{onto, cutAt, same, push, exactly, afterWord, recordOf, readU64, readI64, readTernary}
 use Rattle.text.specs.Lines.{tabbed, joined, lineOf}
-use Rattle.chain.specs.Limits.{small}
-use Rattle.chain.specs.Nodes.{refuses, unlessRefusing, foldAnswer, callsOf, foldOf}
-use Rattle.chain.specs.Reports.{wordOf, leafLine, foldLine, endLine, refusedLine}
-use Rattle.chain.specs.Chain.{numberOf, onSetting, onParam, onMatrix, onLeaf, onChallenge, takeDue, badLine, takeLine, endDue, atEnd}
+use Rattle.chain.specs.Limits.{programLimits, largest, small, programRules}
+use Rattle.chain.specs.Nodes.{refusal, refuses, unlessRefusing, foldAnswer, callsOf, foldOf}
+use Rattle.chain.specs.Reports.{wordOf, numbersOf, leafText, foldText, endLine, refusedLine}
+use Rattle.chain.specs.Chain.{numberOf, onSetting, onParam, onMatrix, onLeaf, onChallenge, takeDue, isStopped, badLine, takeLine, endDue, atEnd}
 use Rattle.chain.specs.Program.{printed, program}
 
 -- the printed example
@@ -67,5 +66,10 @@ abbrev not-due : Type 0
 not-due = program (112 ∷ 97 ∷ 114 ∷ 97 ∷ 109 ∷ 9 ∷ 49 ∷ 9 ∷ 49 ∷ 9 ∷ 49 ∷ 9 ∷ 50 ∷ 9 ∷ 49 ∷ 48 ∷ 48 ∷ 10 ∷ 108 ∷ 101 ∷ 97 ∷ 102 ∷ 9 ∷ 55 ∷ 10 ∷ []) ≡ (114 ∷ 101 ∷ 102 ∷ 117 ∷ 115 ∷ 101 ∷ 100 ∷ 9 ∷ 50 ∷ 9 ∷ 49 ∷ 51 ∷ 10 ∷ [])
 
 pub examples : example × one-leaf × empty × challenge-missing × no-line-feed × growth × growth-first × too-large × too-long × not-due
-unfolding build sum sumℕ residue table ternary firstOf greatest LOf repunit stepOf restOf digitOf unlessRefused all every eqZ short areTernary beside above digitWitness gadget commitRules instanceOf commit relationRules productsHold commitmentHolds memberWord relation messageRules preparedOf message verdictRules firstHolds secondHolds foldedInstance verdictBy verdict witnessRules foldedWitness witness isDigit areDigits isPlain valueFrom naturalFrom natural withoutMinus withMinus integer fitUnsigned fitSigned readUnsigned readSigned unsignedOf signedOf decimalIn decimal decimalZ onto cutAt same push exactly afterWord recordOf readU64 readI64 readTernary tabbed joined lineOf small refuses unlessRefusing foldAnswer callsOf foldOf wordOf leafLine foldLine endLine refusedLine numberOf onSetting onParam onMatrix onLeaf onChallenge takeDue badLine takeLine endDue atEnd printed program
+unfolding build sum sumℕ residue table ternary firstOf greatest LOf repunit stepOf restOf digitOf unlessRefused all every eqZ short areTernary beside above digitWitness gadget commitRules instanceOf commit relationRules productsHold commitmentHolds memberWord relation messageRules preparedOf message verdictRules firstHolds secondHolds foldedInstance verdictBy verdict witnessRules foldedWitness witness isDigit areDigits isPlain valueFrom naturalFrom natural withoutMinus withMinus integer fitUnsigned fitSigned readUnsigned readSigned unsignedOf signedOf decimalIn decimal decimalZ onto cutAt same push exactly afterWord recordOf readU64 readI64 readTernary tabbed joined lineOf small refusal refuses unlessRefusing foldAnswer callsOf foldOf wordOf numbersOf leafText foldText endLine refusedLine numberOf onSetting onParam onMatrix onLeaf onChallenge takeDue isStopped badLine takeLine endDue atEnd printed program
 examples = (refl, refl, refl, refl, refl, refl, refl, refl, refl, refl)
+
+-- the setting with the largest matrices is taken, and its k is the most
+pub largest-is-taken : (firstOf (programRules largest) ≡ 0) × (kOf largest ≡ programLimits .k)
+unfolding firstOf greatest LOf repunit small
+largest-is-taken = (refl, refl)

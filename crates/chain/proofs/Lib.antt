@@ -1,5 +1,7 @@
 pub mod Bytes
 pub mod Counts
+pub mod Limits
+pub mod Numbers
 pub mod Refusing
 pub mod Reached
 pub mod Sizes

@@ -12,23 +12,24 @@ use lib.IntN.{ℤ}
 use lib.ListN.{length}
 use Rattle.integers.proofs.Tests.{true-is}
 use Rattle.settings.specs.Rules.{Rule, _gives_, firstOf}
-use Rattle.settings.specs.Settings.{Parameters, limits, settingRules, settingRefusal}
+use Rattle.settings.specs.Settings.{Parameters, settingRules, settingRefusal}
 use Rattle.settings.proofs.Rules.{stop-all}
 use Rattle.text.specs.Fields.{recordOf, readU64, readI64, readTernary}
 use Rattle.text.proofs.Records.{record-each, ternary-each, each-at}
-use Rattle.lova.specs.Answers.{done, «yes», member, refused, Outcome, ends, unlessRefused, afterSetting}
+use Rattle.lova.specs.Answers.{done, «yes», member, Outcome, ends, unlessRefused, afterSetting}
 use Rattle.lova.specs.Stored.{matrixA, matrixS, sizeC}
 use Rattle.lova.specs.Calls.{Fits, Short}
 use Rattle.lova.specs.Commit.{commitRules, instanceOf, commit}
 use Rattle.lova.specs.Trees.{Tree, leaf, fold, Proper, seen, viewOf, leftWitness}
 use Rattle.lova.proofs.Refusals.{commit-proper}
-use Rattle.chain.specs.Limits.{small, programLimits, programRules}
-use Rattle.chain.specs.Nodes.{Node, blankInstance, refuses, foldOf}
+use Rattle.chain.specs.Limits.{settingLimits, small, programLimits, programRules}
+use Rattle.chain.specs.Nodes.{Node, blankInstance, refusal, refuses, foldOf}
 use Rattle.chain.specs.Reports.{leafWord, foldLine, endLine}
-use Rattle.chain.specs.Chain.{State, Counts, Stage, param, matrix, first, challenge, stopped, Step, start, fromFive, onSetting, onParam, onMatrix, onLeaf, onChallenge, takeDue, badLine, takeLine, endDue, atEnd, longestLine, paramWord, aWord, cWord}
+use Rattle.chain.specs.Chain.{State, Counts, Stage, param, matrix, first, challenge, stopped, Step, start, fromFive, onSetting, onParam, onMatrix, onLeaf, onChallenge, takeDue, isStopped, badLine, takeLine, endDue, atEnd, longestLine, paramWord, aWord, cWord}
 use Rattle.chain.specs.Chain as Chain
 use Rattle.chain.specs.Program.{stateAfter}
 use Rattle.chain.specs.Trees.{blankHeld, treeNode, Spells, one, more}
+use Rattle.chain.proofs.Limits.{program-accepts}
 use Rattle.chain.proofs.Trees.{fold-is, member-is}
 
 -- a record has as many numbers as were asked for
@@ -91,8 +92,7 @@ set-ok xs ys e = by (firstOf xs) refl
     by (suc k) h = sym (stop-all xs ys (λ z. omega (arith, h, z))) ∙ e
 
 accepted : (p : Parameters) → firstOf (programRules p) ≡ 0 → settingRefusal p ≡ 0
-unfolding settingRefusal
-accepted p e = set-ok (settingRules limits p) ((not (small programLimits p) gives 14) ∷ []) e
+accepted p e = program-accepts p (set-ok (settingRules settingLimits p) ((not (small programLimits p) gives 14) ∷ []) e)
 
 spell-one : (l₁ l₂ l₃ xs A : List ℕ) (S : List ℤ) (p : Parameters) → p ≡ fromFive xs
     → recordOf readU64 paramWord 5 l₁ ≡ some xs → recordOf readU64 aWord (matrixA p .size) l₂ ≡ some A → recordOf readI64 leafWord (matrixS p .size) l₃ ≡ some S
@@ -148,7 +148,7 @@ module _ (ls : List (List ℕ)) (n : Counts) (line : List ℕ) where
 
   -- a leaf that is not refused has columns within B
   leaf-proper : (p : Parameters) (A : List ℕ) (S : List ℤ) → recordOf readI64 leafWord (matrixS p .size) line ≡ some S → refuses ((commit p A S (blankInstance p)) .answer) ≡ false → Proper p (leaf S)
-  unfolding commit unlessRefused refuses Proper
+  unfolding commit unlessRefused refusal refuses Proper
   leaf-proper p A S h e = (record-length readI64 leafWord (matrixS p .size) line S h, by (firstOf (afterSetting p (commitRules p A S (blankInstance p)))) refl e)
     where
       by : (k : ℕ) → firstOf (afterSetting p (commitRules p A S (blankInstance p))) ≡ k → refuses (unlessRefused k (blankInstance p) (ends done (instanceOf p A S)) .answer) ≡ false → Short p S
@@ -223,12 +223,7 @@ module _ (ls : List (List ℕ)) (n : Counts) (line : List ℕ) where
 
   at-bad : (s : Stage) → Reached more-lines (badLine n s .state .stage)
   unfolding badLine
-  at-bad param = tt
-  at-bad (matrix p) = tt
-  at-bad (first p A) = tt
-  at-bad (Chain.leaf p A acc) = tt
-  at-bad (challenge p A acc new) = tt
-  at-bad stopped = tt
+  at-bad s = either more-lines (isStopped s) _ _ tt (λ e. tt)
 
 at-line : (ls : List (List ℕ)) (s : State) (line : List ℕ) → Reached ls (s .stage) → Reached (ls ++ (line ∷ [])) (takeLine s line .state .stage)
 unfolding takeLine
@@ -262,8 +257,8 @@ run-waits ls p A node new e = subst (Reached ls) e (reached ls)
 pub fold-says-yes : (ls : List (List ℕ)) (line : List ℕ) (p : Parameters) (A : List ℕ) (node new : Node) (C : List ℕ) (e : stateAfter start ls .stage ≡ challenge p A node new)
     → length line ≤ longestLine → recordOf readTernary cWord (sizeC p) line ≡ some C
     → let w = run-waits ls p A node new e in
-    takeLine (stateAfter start ls) line .output ≡ foldLine (stateAfter start ls .counts .folds + 1) «yes» ((treeNode p A (fold (w .grown .tree) (leaf (w .S)) C)) .instance)
-unfolding takeLine takeDue onChallenge refuses
+    takeLine (stateAfter start ls) line .output ≡ foldLine p (stateAfter start ls .counts .folds + 1) «yes» ((treeNode p A (fold (w .grown .tree) (leaf (w .S)) C)) .instance)
+unfolding takeLine takeDue onChallenge refusal refuses
 fold-says-yes ls line p A node new C e h k =
     let f = fold-node ls (stateAfter start ls .counts) line p A node new (run-waits ls p A node new e) C k in
     rw (e, true-is (leb (length line) longestLine) (le→leb (length line) longestLine h), k, f) refl

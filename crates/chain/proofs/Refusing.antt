@@ -1,17 +1,22 @@
 -- What is kept after an answer: how a leaf and a fold are told from their calls, and what they tell a caller.
 use mathlib.Core.Path.{_≡_, refl, sym, _∙_, ap}
 use mathlib.Core.Bool.{Bool, true, false}
-use mathlib.Core.List.{List}
+use mathlib.Core.List.{List, [], _∷_}
 use Prim.Native.Nat.{ℕ}
 use lib.IntN.{ℤ}
+use denote.Enum.Declared.{tagOf}
+use types.Run.{OneOf, miss}
 use Rattle.settings.specs.Settings.{Parameters}
-use Rattle.lova.specs.Answers.{Meaning, Outcome, ends}
+use Rattle.lova.specs.declared.Verdict.{Verdict}
+use Rattle.lova.specs.declared.Verdict.the-variants as Verdicts
+use Rattle.lova.specs.Answers.{Meaning, verdictOf, Outcome, ends}
 use Rattle.lova.specs.Stored.{Instance, Message, Prepared}
 use Rattle.lova.specs.Commit.{commit}
 use Rattle.lova.specs.Message.{message}
 use Rattle.lova.specs.Verdict.{verdict}
 use Rattle.lova.specs.Witness.{witness}
-use Rattle.chain.specs.Nodes.{Node, nodeOf, blankInstance, blankPrepared, blankWitness, refuses, unlessRefusing, leafOf, foldAnswer, callsOf, foldOf}
+use Rattle.lova.proofs.Verdict.{the-type}
+use Rattle.chain.specs.Nodes.{Node, nodeOf, blankInstance, blankPrepared, blankWitness, refusal, refuses, unlessRefusing, leafOf, foldAnswer, callsOf, foldOf}
 
 -- nodes and messages with equal parts
 pub node-same : (T T′ : List ℕ) (D D′ S S′ : List ℤ) → T ≡ T′ → D ≡ D′ → S ≡ S′ → nodeOf T D S ≡ nodeOf T′ D′ S′
@@ -19,6 +24,17 @@ node-same T T′ D D′ S S′ t d s = rw (t, d, s) refl
 
 pub message-same : («V» V′ : List ℤ) (T~ T′ : List ℕ) (D~ D′ : List ℤ) → «V» ≡ V′ → T~ ≡ T′ → D~ ≡ D′ → _≡_ {A = Message} (record { «V» = «V»; T~ = T~; D~ = D~ }) (record { «V» = V′; T~ = T′; D~ = D′ })
 message-same «V» V′ T~ T′ D~ D′ v t d = rw (v, t, d) refl
+
+-- the places of the verdicts that are no refusal, as a `match` that names `Refused` alone tells them apart; they do not refuse
+abbrev pub passing : List ℕ
+passing = 0 ∷ 1 ∷ 2 ∷ []
+
+pub passes-on : (v : Verdict) → OneOf passing (tagOf the-type v) → refuses (verdictOf v) ≡ false
+unfolding refusal refuses verdictOf
+passes-on Verdicts.Yes h = refl
+passes-on Verdicts.Norm h = refl
+passes-on Verdicts.Commitment h = refl
+passes-on (Verdicts.Refused r) h = absurd (miss passing (tagOf the-type (Verdicts.Refused r)) tt h)
 
 -- an answer that does not refuse keeps what was made, a refusal what was there
 module _ (a : Meaning) (before after : Node) where

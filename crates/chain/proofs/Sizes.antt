@@ -1,13 +1,14 @@
 -- How large the numbers and the matrices of a small setting are.
 use mathlib.Core.Path.{_≡_, subst, sym}
 use mathlib.Core.Bool.{true, _&&_}
-use Prim.Native.Nat.{_*_, _≤_}
+use Prim.Native.Nat.{_≤_}
 use native.Mathlib.Omega.{arith}
 use native.Mathlib.Nat.{mul-le-mul}
 use lib.Dec.{T, leb, leb→le}
 use Rattle.integers.proofs.Tests.{and-fst, and-snd}
 use Rattle.settings.specs.Settings.{Parameters, kOf, NOf}
-use Rattle.chain.specs.Limits.{small, programLimits}
+use Rattle.lova.specs.Stored.{matrixA, matrixT, matrixS, matrixD, matrixV, matrixS~, matrixT~, matrixD~, sizeC}
+use Rattle.chain.specs.Limits.{small, programLimits, largest}
 
 pub record Sizes (p : Parameters) : Type 0 where
   pub n-high : p .n ≤ 8
@@ -15,14 +16,15 @@ pub record Sizes (p : Parameters) : Type 0 where
   pub t-high : p .t ≤ 2
   pub k-high : kOf p ≤ 8
   pub N-high : NOf p ≤ 32
-  pub A-high : p .n * p .m ≤ 128
-  pub T-high : p .n * p .t ≤ 16
-  pub D-high : p .t * p .t ≤ 4
-  pub S-high : p .m * p .t ≤ 32
-  pub T~-high : p .n * NOf p ≤ 256
-  pub D~-high : NOf p * NOf p ≤ 1024
-  pub S~-high : p .m * NOf p ≤ 512
-  pub C-high : NOf p * p .t ≤ 64
+  pub A-high : matrixA p .size ≤ matrixA largest .size
+  pub T-high : matrixT p .size ≤ matrixT largest .size
+  pub D-high : matrixD p .size ≤ matrixD largest .size
+  pub V-high : matrixV p .size ≤ matrixV largest .size
+  pub S-high : matrixS p .size ≤ matrixS largest .size
+  pub T~-high : matrixT~ p .size ≤ 256
+  pub D~-high : matrixD~ p .size ≤ 1024
+  pub S~-high : matrixS~ p .size ≤ 512
+  pub C-high : sizeC p ≤ 64
 
 by-four : (p : Parameters) → p .n ≤ 8 → p .m ≤ 16 → p .t ≤ 2 → kOf p ≤ 8 → Sizes p
 by-four p n m t k =
@@ -36,6 +38,7 @@ by-four p n m t k =
       A-high = mul-le-mul n m;
       T-high = mul-le-mul n t;
       D-high = mul-le-mul t t;
+      V-high = mul-le-mul t t;
       S-high = mul-le-mul m t;
       T~-high = mul-le-mul n N;
       D~-high = mul-le-mul N N;

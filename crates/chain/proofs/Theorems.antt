@@ -1,5 +1,6 @@
 -- What is proved of the chain program's definition, in one place. The code's contracts are equations with the same definitions:
--- `Run::take` and `Run::end` with `takeLine` and `atEnd`, `Feed::read` and `Feed::end` with `feedAll`, `feedOutput` and `feedEnd`.
+-- `runs::take` with `takeLine`, and in `driver` the end of the input with `atEnd` and `feedEnd`, `readings::read` with `feedAll`
+-- and `feedOutput`.
 use mathlib.Core.Path.{_≡_}
 use mathlib.Core.List.{List, [], _++_}
 use mathlib.Core.Option.{some}
@@ -45,7 +46,7 @@ run-waits = Reached.run-waits
 pub fold-says-yes : (ls : List (List ℕ)) (line : List ℕ) (p : Parameters) (A : List ℕ) (node new : Node) (C : List ℕ) (e : stateAfter start ls .stage ≡ challenge p A node new)
     → length line ≤ longestLine → recordOf readTernary cWord (sizeC p) line ≡ some C
     → let w = Reached.run-waits ls p A node new e in
-    takeLine (stateAfter start ls) line .output ≡ foldLine (stateAfter start ls .counts .folds + 1) «yes» ((treeNode p A (fold (w .grown .tree) (leaf (w .S)) C)) .instance)
+    takeLine (stateAfter start ls) line .output ≡ foldLine p (stateAfter start ls .counts .folds + 1) «yes» ((treeNode p A (fold (w .grown .tree) (leaf (w .S)) C)) .instance)
 fold-says-yes = Reached.fold-says-yes
 
 -- where the input may end, the last line is the count of folds and member

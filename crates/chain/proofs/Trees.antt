@@ -13,7 +13,7 @@ use Rattle.lova.specs.Relation.{Related, relation}
 use Rattle.lova.specs.Trees.{Tree, leaf, fold, plain, Proper, HeldFits, leftWitness, seen, prepares, viewOf, AllAccepted, Honest}
 use Rattle.lova.proofs.OneFold.{instance-fits, witness-fits}
 use Rattle.lova.proofs.Theorems.{every-tree-is-honest, relation-member}
-use Rattle.chain.specs.Nodes.{Node, blankInstance, refuses, leafOf, foldAnswer, callsOf, foldOf}
+use Rattle.chain.specs.Nodes.{Node, blankInstance, refusal, refuses, leafOf, foldAnswer, callsOf, foldOf}
 use Rattle.chain.specs.Trees.{blankHeld, treeNode}
 use Rattle.chain.proofs.Refusing.{leaf-ends, blankNode, calls-end, fold-ends}
 
@@ -34,7 +34,7 @@ held-fits p (fold left right C) = (
 
 -- the answer of a fold whose calls are all accepted
 says-yes : (said folded judged : Meaning) → said ≡ done → folded ≡ done → judged ≡ «yes» → «yes» ≡ foldAnswer said folded judged
-unfolding foldAnswer refuses
+unfolding foldAnswer refusal refuses
 says-yes said folded judged s f j = rw (s, f, j) refl
 
 -- the witness of a plain tree has its stated length
@@ -70,7 +70,7 @@ module _ (p : Parameters) (A : List ℕ) (ok : settingRefusal p ≡ 0) (sizeA : 
   commit-is S proper = ap (λ (a : Meaning). ends a ((commit p A S (blankInstance p)) .outputs)) (tree-honest (leaf S) proper .accepted)
 
   pub leaf-is : (S : List ℤ) (before : Node) → Proper p (leaf S) → leafOf p A S before ≡ ends done (treeNode p A (leaf S))
-  unfolding treeNode leftWitness refuses
+  unfolding treeNode leftWitness refusal refuses
   leaf-is S before proper = sym (leaf-ends p A S before done ((treeNode p A (leaf S)) .instance) (sym (commit-is S proper)) refl)
 
   -- a fold's node is what the fold of its two nodes leaves
@@ -83,5 +83,5 @@ module _ (p : Parameters) (A : List ℕ) (ok : settingRefusal p ≡ 0) (sizeA : 
 
   pub fold-is : (left right : Tree) (C : List ℕ) → Proper p (fold left right C)
       → foldOf p A (treeNode p A left) (treeNode p A right) C ≡ ends «yes» (treeNode p A (fold left right C))
-  unfolding refuses
+  unfolding refusal refuses
   fold-is left right C proper = sym (fold-ends p A (treeNode p A left) (treeNode p A right) C «yes» (treeNode p A (fold left right C)) (calls-are left right C proper) refl)

@@ -1,5 +1,5 @@
 -- Document 01, "The chain program": what a run does with each line.
-use mathlib.Core.Bool.{cond}
+use mathlib.Core.Bool.{Bool, true, false, cond}
 use mathlib.Core.List.{List, [], _∷_}
 use mathlib.Core.Option.{Option, some, none}
 use Prim.Native.Nat.{ℕ, zero, suc, _+_}
@@ -10,12 +10,12 @@ use Rattle.settings.specs.Rules.{firstOf}
 use Rattle.settings.specs.Settings.{Parameters}
 use Rattle.settings.specs.HouseList.{parameters}
 use Rattle.text.specs.Fields.{recordOf, readU64, readI64, readTernary}
-use Rattle.lova.specs.Answers.{Meaning, refused, done, «yes», norm, commitment, long, products, member}
+use Rattle.lova.specs.Answers.{Meaning}
 use Rattle.lova.specs.Stored.{matrixA, matrixS, sizeC}
 use Rattle.lova.specs.Commit.{commit}
 use Rattle.lova.specs.Relation.{relation}
 use Rattle.chain.specs.Limits.{programRules}
-use Rattle.chain.specs.Nodes.{Node, blankInstance, refuses, foldOf}
+use Rattle.chain.specs.Nodes.{Node, blankInstance, refusal, refuses, foldOf}
 use Rattle.chain.specs.Reports.{leafWord, leafLine, foldLine, endLine, refusedLine}
 
 -- `param`
@@ -83,16 +83,9 @@ next n due = step (counted (n .line + 1) (n .leaves) (n .folds)) due []
 abbrev pub refuse : Counts → ℕ → Step
 refuse n number = step (counted (n .line + 1) (n .leaves) (n .folds)) stopped (refusedLine (n .line + 1) number)
 
--- a refusal's number
+-- a refusal's number; 0 for every other answer
 unfoldable pub numberOf : Meaning → ℕ
-numberOf (refused r) = r
-numberOf done = 0
-numberOf «yes» = 0
-numberOf norm = 0
-numberOf commitment = 0
-numberOf long = 0
-numberOf products = 0
-numberOf member = 0
+numberOf answer = elim (refusal answer) [ none ↦ 0 | some r ↦ r ]
 
 -- a setting whose first refusal has this number (0: none applies)
 unfoldable pub onSetting : Counts → Parameters → ℕ → Step
@@ -118,7 +111,8 @@ unfoldable pub onLeaf : Counts → Parameters → List ℕ → (Node → Stage) 
 onLeaf n p A after none = refuse n 13
 onLeaf n p A after (some S) =
     let made = commit p A S (blankInstance p) in
-    let taken = step (counted (n .line + 1) (n .leaves + 1) (n .folds)) (after (record { instance = made .outputs; witness = S })) (leafLine (n .leaves + 1) (made .outputs)) in
+    let taken = step (counted (n .line + 1) (n .leaves + 1) (n .folds)) (after (record { instance = made .outputs; witness = S }))
+    (leafLine p (n .leaves + 1) (made .outputs)) in
     cond (refuses (made .answer)) (refuse n (numberOf (made .answer))) taken
 
 -- `c` with N×t entries of −1, 0 or 1: 13; the accumulated node is first and the new leaf second
@@ -126,7 +120,8 @@ unfoldable pub onChallenge : Counts → Parameters → List ℕ → Node → Nod
 onChallenge n p A accumulated new none = refuse n 13
 onChallenge n p A accumulated new (some C) =
     let made = foldOf p A accumulated new C in
-    let taken = step (counted (n .line + 1) (n .leaves) (n .folds + 1)) (leaf p A (made .outputs)) (foldLine (n .folds + 1) (made .answer) (made .outputs .instance)) in
+    let taken = step (counted (n .line + 1) (n .leaves) (n .folds + 1)) (leaf p A (made .outputs))
+    (foldLine p (n .folds + 1) (made .answer) (made .outputs .instance)) in
     cond (refuses (made .answer)) (refuse n (numberOf (made .answer))) taken
 
 -- a line by what is due; a run that has stopped takes nothing more and prints nothing more
@@ -138,14 +133,18 @@ takeDue n (leaf p A accumulated) line = onLeaf n p A (λ node. challenge p A acc
 takeDue n (challenge p A accumulated new) line = onChallenge n p A accumulated new (recordOf readTernary cWord (sizeC p) line)
 takeDue n stopped line = step n stopped []
 
+-- whether a run has stopped
+unfoldable pub isStopped : Stage → Bool
+isStopped param = false
+isStopped (matrix p) = false
+isStopped (first p A) = false
+isStopped (leaf p A node) = false
+isStopped (challenge p A node new) = false
+isStopped stopped = true
+
 -- a line that is no record: 13
 unfoldable pub badLine : Counts → Stage → Step
-badLine n param = refuse n 13
-badLine n (matrix p) = refuse n 13
-badLine n (first p A) = refuse n 13
-badLine n (leaf p A accumulated) = refuse n 13
-badLine n (challenge p A accumulated new) = refuse n 13
-badLine n stopped = step n stopped []
+badLine n due = cond (isStopped due) (step n stopped []) (refuse n 13)
 
 -- one line, without its line feed
 unfoldable pub takeLine : State → List ℕ → Step

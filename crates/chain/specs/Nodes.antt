@@ -1,12 +1,15 @@
 -- The nodes of a chain: a leaf by commit, a fold by message, folded witness and verdict.
 use mathlib.Core.Bool.{Bool, true, false, cond}
 use mathlib.Core.List.{List}
+use mathlib.Core.Option.{Option, some, none}
 use Prim.Native.Nat.{ℕ}
 use lib.IntN.{ℤ, pos}
 use lib.ListN.{replicate}
 use Rattle.settings.specs.Settings.{Parameters}
 use Rattle.lova.specs.Answers.{Meaning, done, «yes», norm, commitment, long, products, member, refused, Outcome, ends}
 use Rattle.lova.specs.Stored.{Instance, Prepared, matrixT, matrixS, matrixD, matrixV, matrixS~, matrixT~, matrixD~}
+use Rattle.lova.specs.Lent.{LentSlice}
+use Rattle.lova.specs.Calls.{Fits}
 use Rattle.lova.specs.Commit.{commit}
 use Rattle.lova.specs.Message.{message}
 use Rattle.lova.specs.Verdict.{verdict}
@@ -19,6 +22,17 @@ pub record Node : Type 0 where
 
 abbrev pub nodeOf : List ℕ → List ℤ → List ℤ → Node
 nodeOf T D S = record { instance = record { T = T; D = D }; witness = S }
+
+-- its matrices have the stated lengths
+abbrev pub FitsNode : Parameters → Node → Type 0
+FitsNode p z = Fits (matrixT p) (z .instance .T) × Fits (matrixD p) (z .instance .D) × Fits (matrixS p) (z .witness)
+
+-- the node that three lent slices hold, at entry and at exit
+abbrev pub nodeBefore : LentSlice ℕ → LentSlice ℤ → LentSlice ℤ → Node
+nodeBefore t d s = nodeOf (t .entry .now) (d .entry .now) (s .entry .now)
+
+abbrev pub nodeAfter : LentSlice ℕ → LentSlice ℤ → LentSlice ℤ → Node
+nodeAfter t d s = nodeOf (t .exit .now) (d .exit .now) (s .exit .now)
 
 -- outputs of the stated lengths that hold zeros, as every call of a chain finds them
 abbrev pub blankInstance : Parameters → Instance
@@ -33,16 +47,20 @@ blankPrepared p = record {
 abbrev pub blankWitness : Parameters → List ℤ
 blankWitness p = replicate (matrixS p .size) (pos 0)
 
+-- the number of a refusal; no other answer has one
+unfoldable pub refusal : Meaning → Option ℕ
+refusal (refused r) = some r
+refusal done = none
+refusal «yes» = none
+refusal norm = none
+refusal commitment = none
+refusal long = none
+refusal products = none
+refusal member = none
+
 -- whether an answer is a refusal
 unfoldable pub refuses : Meaning → Bool
-refuses done = false
-refuses «yes» = false
-refuses norm = false
-refuses commitment = false
-refuses long = false
-refuses products = false
-refuses member = false
-refuses (refused r) = true
+refuses answer = elim (refusal answer) [ none ↦ false | some r ↦ true ]
 
 -- what is kept after an answer: a refusal changes nothing
 unfoldable pub unlessRefusing : Meaning → Node → Node → Outcome Node

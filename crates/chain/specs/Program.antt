@@ -1,11 +1,11 @@
 -- The whole run: from the bytes of the input to the bytes of the output.
-use mathlib.Core.Bool.{Bool, true, false, cond}
+use mathlib.Core.Bool.{Bool, false, cond}
 use mathlib.Core.List.{List, [], _∷_, _++_}
 use Prim.Native.Nat.{ℕ, _+_}
 use lib.Dec.{ltb, eqb}
 use lib.ListN.{length}
 use Rattle.text.specs.Fields.{cutAt, fields, same}
-use Rattle.chain.specs.Chain.{State, Stage, param, matrix, first, leaf, challenge, stopped, Step, start, takeLine, atEnd, longestLine, cWord}
+use Rattle.chain.specs.Chain.{State, Step, start, isStopped, takeLine, atEnd, longestLine, cWord}
 
 -- the lines of an input: it is cut at each line feed (byte 10); the last part is what stands after the last of them
 abbrev pub lines : List ℕ → List (List ℕ)
@@ -80,15 +80,6 @@ whole [] = []
 whole (c ∷ cs) = c ++ whole cs
 
 -- ---- the count of folds
-
--- whether a run has stopped
-unfoldable pub isStopped : Stage → Bool
-isStopped param = false
-isStopped (matrix p) = false
-isStopped (first p A) = false
-isStopped (leaf p A node) = false
-isStopped (challenge p A node new) = false
-isStopped stopped = true
 
 -- the lines that a run takes: those before the first that is refused
 unfoldable pub taken : State → List (List ℕ) → List (List ℕ)

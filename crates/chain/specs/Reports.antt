@@ -1,10 +1,13 @@
 -- Document 01, "The chain program": the words, and the lines that the program prints.
 use mathlib.Core.List.{List, [], _∷_, _++_, map}
 use Prim.Native.Nat.{ℕ}
+use lib.IntN.{ℤ}
+use Rattle.matrices.specs.Tables.{table}
+use Rattle.settings.specs.Settings.{Parameters}
 use Rattle.numerals.specs.Numerals.{decimal, decimalZ}
-use Rattle.text.specs.Lines.{lineOf}
+use Rattle.text.specs.Lines.{tabbed, lineOf}
 use Rattle.lova.specs.Answers.{Meaning, done, «yes», norm, commitment, long, products, member, refused}
-use Rattle.lova.specs.Stored.{Instance}
+use Rattle.lova.specs.Stored.{Stored, Instance, matrixD}
 
 -- `leaf`
 abbrev pub leafWord : List ℕ
@@ -33,17 +36,33 @@ wordOf products = 112 ∷ 114 ∷ 111 ∷ 100 ∷ 117 ∷ 99 ∷ 116 ∷ 115 ∷
 wordOf member = 109 ∷ 101 ∷ 109 ∷ 98 ∷ 101 ∷ 114 ∷ []
 wordOf (refused r) = refusedWord
 
--- the numerals of T and of D, by rows
-abbrev pub instanceFields : Instance → List (List ℕ)
-instanceFields I = map decimal (I .T) ++ map decimalZ (I .D)
+-- the entries of a stored matrix, by rows, as the whole numbers that they are
+unfoldable pub numbersOf : {E : Type 0} → Stored E → ℕ → ℕ → List E → List ℤ
+numbersOf s rows cols xs = table rows cols (s .read xs)
+
+-- the numerals of T, and of the entries of D
+abbrev pub instanceFields : List ℕ → List ℤ → List (List ℕ)
+instanceFields T D = map decimal T ++ map decimalZ D
+
+-- how a line ends that has them: a tab before each, and a line feed
+abbrev pub instanceText : List ℕ → List ℤ → List ℕ
+instanceText T D = tabbed (instanceFields T D) ++ (10 ∷ [])
 
 -- `leaf` has its number, T, D
-unfoldable pub leafLine : ℕ → Instance → List ℕ
-leafLine number I = lineOf (leafWord ∷ decimal number ∷ instanceFields I)
+unfoldable pub leafText : ℕ → List ℕ → List ℤ → List ℕ
+leafText number T D = lineOf (leafWord ∷ decimal number ∷ instanceFields T D)
 
 -- `fold` has its number, the verdict, T', D'
-unfoldable pub foldLine : ℕ → Meaning → Instance → List ℕ
-foldLine number answer I = lineOf (foldWord ∷ decimal number ∷ wordOf answer ∷ instanceFields I)
+unfoldable pub foldText : ℕ → Meaning → List ℕ → List ℤ → List ℕ
+foldText number answer T D = lineOf (foldWord ∷ decimal number ∷ wordOf answer ∷ instanceFields T D)
+
+-- the lines of a leaf's and of a fold's instance: they print the entries of D, however D is stored
+module _ (p : Parameters) (number : ℕ) where
+  abbrev pub leafLine : Instance → List ℕ
+  leafLine I = leafText number (I .T) (numbersOf (matrixD p) (p .t) (p .t) (I .D))
+
+  abbrev pub foldLine : Meaning → Instance → List ℕ
+  foldLine answer I = foldText number answer (I .T) (numbersOf (matrixD p) (p .t) (p .t) (I .D))
 
 -- `end` has the count of folds and the relation test of the final witness
 unfoldable pub endLine : ℕ → Meaning → List ℕ

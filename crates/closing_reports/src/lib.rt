@@ -1,5 +1,5 @@
-// The line that the chain program prints for a refusal, written to the start of a buffer. It is printed for a line that came
-// and for one that is missing.
+// The line that the chain program prints for a refusal, written to the start of a buffer. It is printed for a line that
+// came and for one that is missing.
 ghost use mathlib.Core.Path.{_≡_};
 ghost use Prim.Native.Nat.{_≤_};
 ghost use lib.ListN.{length, take};

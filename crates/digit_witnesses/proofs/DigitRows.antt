@@ -1,91 +1,94 @@
 -- Rows of a digit witness, written in two parts, and the witness written row by row.
-use mathlib.Core.Path.{_≡_, sym, _∙_, ap}
+use mathlib.Core.Path.{_≡_, refl, sym, _∙_, ap}
 use mathlib.Core.Logic.{⊎-elim}
 use mathlib.Core.List.{List, _++_}
 use Prim.Native.Nat.{ℕ, _+_, _*_, _-_, _/_, _%_, _<_, _≤_}
 use native.Mathlib.Omega.{arith}
-use native.Mathlib.Nat.{div-lt-iff-lt-mul, add-mul, one-mul}
-use lib.Arith.{digits-div, digits-mod}
+use native.Mathlib.Nat.{div-lt-iff-lt-mul, mul-le-mul-right}
 use lib.IntN.{ℤ, pos}
-use lib.ListN.{length, getD, take, drop, length-append, length-drop, List·getD-append}
-use lib.Seq.{getD-take, getD-drop, getD-append-add, length-take-le}
-use Rattle.integers.proofs.Lists.{getD-build, filled-part}
+use lib.ListN.{length, getD, take, drop, length-append, List·getD-append}
+use lib.Seq.{getD-append-add}
+use Rattle.integers.specs.Lists.{build}
 use Rattle.integers.proofs.Tests.{le-or-lt}
-use Rattle.matrices.proofs.Tables.{TableTo, row-within}
+use Rattle.matrices.specs.Matrices.{Matrix}
+use Rattle.matrices.specs.Tables.{signed}
+use Rattle.matrices.proofs.Tables.{TableTo, row-long, row-at, table-part-of}
 use Rattle.settings.specs.Settings.{Parameters, kOf, NOf}
 use Rattle.digits.specs.Digits.{digitOf, rowDigits}
-use Rattle.digits.proofs.Rows.{digitAt, length-rowDigits}
-use Rattle.lova.specs.Stored.{matrixS}
-use Rattle.lova.specs.Fold.{besideS, digitWitness}
+use Rattle.digits.proofs.Rows.{digitAt}
+use Rattle.lova.specs.Fold.{beside, digitWitness}
 use Rattle.lova.proofs.Blocks.{beside-left, beside-right}
 
--- row i of a matrix stored by rows
+-- with as many columns on the right as on the left the digit witness has N columns, and with fewer no more than N
+pub both-wide : (p : Parameters) → (p .t + p .t) * kOf p ≡ NOf p
+both-wide p = omega arith
+
+pub wide-high : (p : Parameters) (right : ℕ) → right ≤ p .t → (p .t + right) * kOf p ≤ NOf p
+wide-high p right h = rw (← both-wide p) (mul-le-mul-right (kOf p) (omega arith))
+
+-- row i of a matrix, lent as a part of it
 abbrev pub rowOf : ℕ → List ℤ → ℕ → List ℤ
-rowOf cols S i = take cols (drop (i * cols) S)
+rowOf cols S i = take (i * cols + cols - i * cols) (drop (i * cols) S)
 
-module _ (rows cols : ℕ) (S : List ℤ) (size : length S ≡ rows * cols) (i : ℕ) (within : i < rows) where
-  pub length-row : length (rowOf cols S i) ≡ cols
-  length-row = length-take-le cols (drop (i * cols) S) (rw (length-drop (i * cols) S) (omega (arith, row-within rows cols i within)))
+-- the digit witness of [S1 S2], where S2 has so many columns
+abbrev pub digitsOfBoth : Parameters → ℕ → List ℤ → List ℤ → Matrix
+digitsOfBoth p right S₁ S₂ = digitWitness p (beside (p .t) (signed (p .t) S₁) (signed right S₂))
 
-  pub row-entry : (j : ℕ) → j < cols → getD (rowOf cols S i) j (pos 0) ≡ getD S (i * cols + j) (pos 0)
-  row-entry j h = getD-take cols (drop (i * cols) S) j (pos 0) h ∙ getD-drop (i * cols) S j (pos 0)
+-- row i of it, with the number of digits that a setting has
+module _ (p : Parameters) (right k : ℕ) (S₁ S₂ : List ℤ) (is-k : k ≡ kOf p)
+    (size₁ : length S₁ ≡ p .m * p .t) (size₂ : length S₂ ≡ p .m * right) (i : ℕ) (hi : i < p .m) where
+  -- how many columns it has
+  abbrev pub wide : ℕ
+  wide = (p .t + right) * k
 
-module _ (p : Parameters) (S₁ S₂ : List ℤ) (size₁ : length S₁ ≡ p .m * p .t) (size₂ : length S₂ ≡ p .m * p .t) where
   -- row i of [S1 S2]
-  abbrev pub bothRows : ℕ → List ℤ
-  bothRows i = rowOf (p .t) S₁ i ++ rowOf (p .t) S₂ i
+  abbrev both : List ℤ
+  both = rowOf (p .t) S₁ i ++ rowOf right S₂ i
 
-  both-length : (i : ℕ) → i < p .m → length (bothRows i) ≡ 2 * p .t
-  both-length i h = length-append (rowOf (p .t) S₁ i) (rowOf (p .t) S₂ i) ∙ omega (arith, length-row (p .m) (p .t) S₁ size₁ i h, length-row (p .m) (p .t) S₂ size₂ i h)
+  left-long : length (rowOf (p .t) S₁ i) ≡ p .t
+  left-long = row-long (p .m) (p .t) i S₁ size₁ hi
 
-  both-entry : (i j : ℕ) → i < p .m → j < 2 * p .t → getD (bothRows i) j (pos 0) ≡ besideS p S₁ S₂ i j
-  both-entry i j hi hj = ⊎-elim (λ (g : p .t ≤ j). right g) (λ (g : j < p .t). left g) (le-or-lt (p .t) j)
+  right-long : length (rowOf right S₂ i) ≡ right
+  right-long = row-long (p .m) right i S₂ size₂ hi
+
+  both-long : length both ≡ p .t + right
+  both-long = length-append (rowOf (p .t) S₁ i) (rowOf right S₂ i) ∙ omega (arith, left-long, right-long)
+
+  both-entry : (j : ℕ) → j < p .t + right → getD both j (pos 0) ≡ beside (p .t) (signed (p .t) S₁) (signed right S₂) i j
+  both-entry j h = ⊎-elim (λ (g : p .t ≤ j). past g) (λ (g : j < p .t). within g) (le-or-lt (p .t) j)
     where
-      left : j < p .t → getD (bothRows i) j (pos 0) ≡ besideS p S₁ S₂ i j
-      left g =
-          List·getD-append (rowOf (p .t) S₁ i) (rowOf (p .t) S₂ i) (pos 0) j (omega (arith, length-row (p .m) (p .t) S₁ size₁ i hi))
-          ∙ row-entry (p .m) (p .t) S₁ size₁ i hi j g
-          ∙ sym (beside-left (p .t) (matrixS p .read S₁) (matrixS p .read S₂) i j g)
+      within : j < p .t → getD both j (pos 0) ≡ beside (p .t) (signed (p .t) S₁) (signed right S₂) i j
+      within g =
+          List·getD-append (rowOf (p .t) S₁ i) (rowOf right S₂ i) (pos 0) j (omega (arith, left-long))
+          ∙ row-at (pos 0) (p .t) i S₁ j g
+          ∙ sym (beside-left (p .t) (signed (p .t) S₁) (signed right S₂) i j g)
 
-      right : p .t ≤ j → getD (bothRows i) j (pos 0) ≡ besideS p S₁ S₂ i j
-      right g =
-          let at : j ≡ length (rowOf (p .t) S₁ i) + (j - p .t) = omega (arith, length-row (p .m) (p .t) S₁ size₁ i hi) in
-          ap (λ (x : ℕ). getD (bothRows i) x (pos 0)) at
-          ∙ getD-append-add (rowOf (p .t) S₁ i) (rowOf (p .t) S₂ i) (j - p .t) (pos 0)
-          ∙ row-entry (p .m) (p .t) S₂ size₂ i hi (j - p .t) (omega arith)
-          ∙ sym (beside-right (p .t) (matrixS p .read S₁) (matrixS p .read S₂) i j g)
+      past : p .t ≤ j → getD both j (pos 0) ≡ beside (p .t) (signed (p .t) S₁) (signed right S₂) i j
+      past g =
+          let at : j ≡ length (rowOf (p .t) S₁ i) + (j - p .t) = omega (arith, left-long) in
+          ap (λ (x : ℕ). getD both x (pos 0)) at
+          ∙ getD-append-add (rowOf (p .t) S₁ i) (rowOf right S₂ i) (j - p .t) (pos 0)
+          ∙ row-at (pos 0) right i S₂ (j - p .t) (omega arith)
+          ∙ sym (beside-right (p .t) (signed (p .t) S₁) (signed right S₂) i j g)
 
-  -- the place of column c's entry in a row of [S1 S2]
-  entry-of : (c : ℕ) → c < NOf p → c / kOf p < 2 * p .t
-  entry-of c h = div-lt-iff-lt-mul {k = kOf p} (omega arith) .1 (omega arith)
+  -- the digit in column c
+  digit-is : (c : ℕ) → c < wide → digitAt (p .b) k both c ≡ digitsOfBoth p right S₁ S₂ i c
+  unfolding digitWitness
+  digit-is c h = rw is-k (ap (λ (z : ℤ). digitOf (p .b) z (c % kOf p)) (both-entry (c / kOf p) entry))
+    where
+      entry : c / kOf p < p .t + right
+      entry = div-lt-iff-lt-mul {k = kOf p} (omega arith) .1 (rw is-k at h)
+
+  -- the row has room for the digits of both rows
+  pub row-fits : (out : List ℤ) → length out ≡ p .m * wide
+      → length (rowOf wide out i) ≡ (length (rowOf (p .t) S₁ i) + length (rowOf right S₂ i)) * k
+  row-fits out long = rw (row-long (p .m) wide i out long hi, left-long, right-long) refl
 
   -- one row more of the digit witness
-  pub witness-more : (i : ℕ) (out ys : List ℤ) → i < p .m → ys ≡ rowDigits (p .b) (kOf p) (bothRows i)
-      → TableTo (pos 0) (p .m) (NOf p) (digitWitness p (besideS p S₁ S₂)) out (i * NOf p)
-      → TableTo (pos 0) (p .m) (NOf p) (digitWitness p (besideS p S₁ S₂)) (take (i * NOf p) out ++ (ys ++ drop (NOf p) (drop (i * NOf p) out))) ((i + 1) * NOf p)
-  unfolding digitWitness
-  witness-more i out ys hi e w =
-      let next : (i + 1) * NOf p ≡ i * NOf p + NOf p = omega (arith, add-mul i 1 (NOf p), one-mul (NOf p)) in
-      rw next (filled-part (p .m * NOf p) (λ x. digitWitness p (besideS p S₁ S₂) (x / NOf p) (x % NOf p)) (pos 0) (i * NOf p) (NOf p) out ys
-      (row-within (p .m) (NOf p) i hi) long (λ c h. rw (digits-div i h, digits-mod i h) (at c h)) w)
-    where
-      long : length ys ≡ NOf p
-      long = ap length e ∙ length-rowDigits (p .b) (kOf p) (bothRows i) ∙ rw (both-length i hi) (omega arith)
-
-      at : (c : ℕ) → c < NOf p → getD ys c (pos 0) ≡ digitOf (p .b) (besideS p S₁ S₂ i (c / kOf p)) (c % kOf p)
-      at c h =
-          ap (λ (l : List ℤ). getD l c (pos 0)) e
-          ∙ getD-build (length (bothRows i) * kOf p) (digitAt (p .b) (kOf p) (bothRows i)) c (pos 0) (rw (both-length i hi) (omega arith))
-          ∙ ap (λ (z : ℤ). digitOf (p .b) z (c % kOf p)) (both-entry i (c / kOf p) hi (entry-of c h))
-
-  -- the same two facts as the code states them: with the setting's own k and N, and parts whose lengths are differences
-  module _ (i wide k n₁ n₂ : ℕ) (is-N : wide ≡ NOf p) (is-k : k ≡ kOf p) (whole : n₁ ≡ wide) (part : n₂ ≡ p .t) (hi : i < p .m) where
-    pub row-fits : (out : List ℤ) → length out ≡ p .m * NOf p
-        → length (take n₁ (drop (i * wide) out)) ≡ (length (take n₂ (drop (i * p .t) S₁)) + length (take n₂ (drop (i * p .t) S₂))) * k
-    row-fits out long =
-        rw (whole, part, is-N, is-k, length-row (p .m) (NOf p) out long i hi, length-row (p .m) (p .t) S₁ size₁ i hi, length-row (p .m) (p .t) S₂ size₂ i hi) (omega arith)
-
-    pub row-written : (out ys : List ℤ) → ys ≡ rowDigits (p .b) k (take n₂ (drop (i * p .t) S₁) ++ take n₂ (drop (i * p .t) S₂))
-        → TableTo (pos 0) (p .m) (NOf p) (digitWitness p (besideS p S₁ S₂)) out (i * NOf p)
-        → TableTo (pos 0) (p .m) (NOf p) (digitWitness p (besideS p S₁ S₂)) (take (i * wide) out ++ (ys ++ drop n₁ (drop (i * wide) out))) ((i + 1) * NOf p)
-    row-written out ys e w = rw (whole, is-N) (witness-more i out ys hi (rw (part, is-k) at e) w)
+  pub row-written : (out ys : List ℤ) → ys ≡ rowDigits (p .b) k both
+      → TableTo (pos 0) (p .m) wide (digitsOfBoth p right S₁ S₂) out (i * wide)
+      → TableTo (pos 0) (p .m) wide (digitsOfBoth p right S₁ S₂)
+      (take (i * wide) out ++ (ys ++ drop (i * wide + wide - i * wide) (drop (i * wide) out))) ((i + 1) * wide)
+  row-written out ys e w =
+      table-part-of (pos 0) (p .m) wide (digitsOfBoth p right S₁ S₂) out i ys (digitAt (p .b) k both) hi
+      (e ∙ ap (λ (n : ℕ). build (n * k) (digitAt (p .b) k both)) both-long) digit-is w

@@ -3,11 +3,11 @@ ghost use mathlib.Core.Path.{_≡_};
 ghost use mathlib.Core.List.{_++_};
 ghost use Prim.Native.Nat.{_+_, _*_, _≤_};
 ghost use lib.ListN.{length};
-ghost use Rattle.matrices.specs.Tables.{table};
-ghost use Rattle.settings.specs.Settings.{parametersOf, NOf};
+ghost use Rattle.matrices.specs.Tables.{table, signed};
+ghost use Rattle.settings.specs.Settings.{parametersOf, kOf};
 ghost use Rattle.digits.specs.Digits.{rowDigits};
 ghost use Rattle.lova.specs.Calls.{Rebuilt};
-ghost use Rattle.lova.specs.Fold.{besideS, digitWitness};
+ghost use Rattle.lova.specs.Fold.{beside, digitWitness};
 
 mod digit_rows;
 
@@ -24,25 +24,30 @@ fn write_both(left: &[i64], right: &[i64], b: u64, k: usize, row: &mut [i64])
     digit_rows::write_row(right, b, k, &mut row[middle..]);
 }
 
-// Writes the digit witness of [s1 s2], row by row.
-pub fn write_witness(setting: Setting, s1: &[i64], s2: &[i64], out: &mut [i64])
-    requires { ⌜ Rebuilt setting ⌝ }
-    requires { ⌜ (length (now s1) ≡ setting .m * setting .t) × (length (now s2) ≡ setting .m * setting .t) × (length (now out) ≡ setting .m * NOf (parametersOf setting)) ⌝ }
-    ensures { λ _. ⌜ now (out .exit) ≡ table (setting .m) (NOf (parametersOf setting)) (digitWitness (parametersOf setting) (besideS (parametersOf setting) (now (s1 .entry)) (now (s2 .entry)))) ⌝ }
+// Writes the digit witness of [s1 s2], row by row: s1 has t columns, and s2 has `right`.
+pub fn write_witness(setting: Setting, right: usize, s1: &[i64], s2: &[i64], out: &mut [i64])
+    requires { ⌜ Rebuilt setting × (right ≤ setting .t) ⌝ }
+    requires { ⌜ (length (now s1) ≡ setting .m * setting .t) × (length (now s2) ≡ setting .m * right)
+        × (length (now out) ≡ setting .m * ((setting .t + right) * kOf (parametersOf setting))) ⌝ }
+    ensures { λ _. ⌜ now (out .exit)
+        ≡ table (setting .m) ((setting .t + right) * kOf (parametersOf setting)) (digitWitness (parametersOf setting)
+        (beside (setting .t) (signed (setting .t) (now (s1 .entry))) (signed right (now (s2 .entry))))) ⌝ }
 {
     let m = setting.m;
-    let cols = setting.t;
+    let left = setting.t;
     let k = setting.k;
-    let wide = setting.columns;
+    let wide = (left + right) * k;
     let mut i: usize = 0;
     while i < m {
-        let from = i * cols;
-        let to = from + cols;
+        let left_start = i * left;
+        let left_end = left_start + left;
+        let right_start = i * right;
+        let right_end = right_start + right;
         let start = i * wide;
         let end = start + wide;
         write_both(
-            &s1[from..to],
-            &s2[from..to],
+            &s1[left_start..left_end],
+            &s2[right_start..right_end],
             setting.b,
             k,
             &mut out[start..end],

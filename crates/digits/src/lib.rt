@@ -10,7 +10,8 @@ pub struct Step {
     pub rest: u64,
 }
 
-// The lowest digit of the size w, and what w becomes. (w - d)/b is w / b; taken here, beside w % b, both are one division of the machine.
+// The lowest digit of the size w, and what w becomes. (w - d)/b is w / b; taken here, beside w % b, both are one
+// division of the machine.
 pub fn take_digit(w: u64, b: u64) -> Step
     requires { ⌜ 2 ≤ b ⌝ }
     ensures { λ r. ⌜ r ≡ stepOf b w ⌝ }

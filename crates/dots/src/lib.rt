@@ -1,4 +1,4 @@
-// Sums of 32 products of numbers of at most 1024 in size.
+// Sums of 32 products of 16-bit numbers, in 32 bits.
 //
 // The sum is a tree with no loop, a form that leaves the compiler free to multiply pairs of 16-bit numbers and add them
 // at once. A caller has one such sum in its innermost loop.

@@ -1,25 +1,42 @@
 -- What the end of the input comes to.
-use mathlib.Core.Path.{_≡_, sym, _∙_, ap}
+use mathlib.Core.Path.{_≡_, refl, sym, _∙_, ap}
 use mathlib.Core.List.{List, [], _∷_}
-use Prim.Native.Nat.{ℕ, _≤_, _<_}
+use Prim.Native.Nat.{ℕ, _+_, _≤_, _<_}
 use native.Mathlib.Omega.{arith}
-use lib.IntN.{ℤ}
 use lib.ListN.{length, take}
-use Rattle.settings.specs.Settings.{parametersOf}
-use Rattle.chain.specs.Chain.{Step, endDue, atEnd}
-use Rattle.states.specs.Lent.{BadComes, Ends, stageOf, countsOf}
+use denote.Enum.Declared.{tagOf}
+use types.Run.{OneOf, miss}
+use Rattle.settings.specs.Settings.{Parameters, parametersOf}
+use Rattle.chain.specs.Reports.{refusedLine}
+use Rattle.chain.specs.Chain.{Counts, Step, badLine, endDue, atEnd}
+use Rattle.states.specs.Lent.{Store, stageOf, countsOf, stateOf, stepOf}
 use Rattle.states.specs.declared.Due.{Due}
+use Rattle.states.specs.declared.Due.the-variants as Dues
 use Rattle.states.specs.declared.Run.{Run}
 use Rattle.states.specs.declared.Taken.{Taken}
+use Rattle.states.proofs.Due.{the-type}
 
-pub end-bad : (t : Taken) (r : Run) (A T : List ℕ) (D S : List ℤ) (rest out : List ℕ) → 0 < length rest → BadComes t r out → Ends (t .length) r A T D S rest out
-unfolding atEnd
-end-bad t r A T D S [] out h come T₂ D₂ S₂ = absurd (omega arith)
-end-bad t r A T D S (x ∷ rest) out h come T₂ D₂ S₂ = ap (λ (s : Step). s .output) (come (record { A = A; T₁ = T; D₁ = D; S₁ = S; T₂ = T₂; D₂ = D₂; S₂ = S₂ }))
+-- the places in `Due` of what leaves a line missing: the end of the input is 13 there
+abbrev pub unfinished : List ℕ
+unfinished = 0 ∷ 1 ∷ 2 ∷ 4 ∷ []
 
-pub end-due : (n : ℕ) (r : Run) (d : Due) (A T : List ℕ) (D S : List ℤ) (rest out : List ℕ) → length rest ≤ 0 → r .due ≡ d
-    → ((T₂ : List ℕ) (D₂ S₂ : List ℤ) → take n out ≡ endDue (countsOf r) (stageOf d (parametersOf (r .setting)) (record { A = A; T₁ = T; D₁ = D; S₁ = S; T₂ = T₂; D₂ = D₂; S₂ = S₂ })))
-    → Ends n r A T D S rest out
-unfolding atEnd
-end-due n r d A T D S [] out h e is T₂ D₂ S₂ = is T₂ D₂ S₂ ∙ ap (λ (d : Due). endDue (countsOf r) (stageOf d (parametersOf (r .setting)) (record { A = A; T₁ = T; D₁ = D; S₁ = S; T₂ = T₂; D₂ = D₂; S₂ = S₂ }))) (sym e)
-end-due n r d A T D S (x ∷ rest) out h e is T₂ D₂ S₂ = absurd (omega arith)
+pub end-missing : (n : Counts) (d : Due) (p : Parameters) (m : Store) → OneOf unfinished (tagOf the-type d) → endDue n (stageOf d p m) ≡ refusedLine (n .line + 1) 13
+unfolding stageOf endDue
+end-missing n Dues.Param p m h = refl
+end-missing n Dues.Matrix p m h = refl
+end-missing n Dues.First p m h = refl
+end-missing n Dues.Challenge p m h = refl
+end-missing n Dues.Leaf p m h = absurd (miss unfinished (tagOf the-type Dues.Leaf) tt h)
+end-missing n Dues.Nothing p m h = absurd (miss unfinished (tagOf the-type Dues.Nothing) tt h)
+
+module _ (r : Run) (m : Store) (out : List ℕ) where
+  pub end-bad : (rest : List ℕ) (t : Taken) → 0 < length rest → stepOf t m out ≡ badLine (countsOf r) (stateOf r m .stage) → take (t .length) out ≡ atEnd (stateOf r m) rest
+  unfolding atEnd
+  end-bad [] t h come = absurd (omega arith)
+  end-bad (x ∷ rest) t h come = ap (λ (s : Step). s .output) come
+
+  pub end-due : (rest : List ℕ) (n : ℕ) (d : Due) → length rest ≤ 0 → r .due ≡ d → take n out ≡ endDue (countsOf r) (stageOf d (parametersOf (r .setting)) m)
+      → take n out ≡ atEnd (stateOf r m) rest
+  unfolding atEnd
+  end-due [] n d h e is = is ∙ ap (λ (d : Due). endDue (countsOf r) (stageOf d (parametersOf (r .setting)) m)) (sym e)
+  end-due (x ∷ rest) n d h e is = absurd (omega arith)

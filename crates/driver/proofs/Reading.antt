@@ -1,11 +1,11 @@
 -- What comes of a part of a chunk, from where it was cut.
+use borrow.Author.Tests.{not-true, not-false}
 use mathlib.Core.Path.{_≡_, sym, _∙_, ap, subst}
 use mathlib.Core.Bool.{Bool, true, false, not, cond}
 use mathlib.Core.List.{List, []}
 use Prim.Native.Nat.{ℕ, _+_, _≤_}
 use native.Mathlib.Omega.{arith}
 use lib.ListN.{length, take}
-use Rattle.lova.proofs.Numbers.{failed-test, passed-test}
 use Rattle.chain.specs.Chain.{Step, takeLine}
 use Rattle.chain.specs.Program.{Fed, ended, feedAll, feedOutput}
 use Rattle.states.specs.Lent.{Store, Sound, stateOf, stepOf}
@@ -31,7 +31,7 @@ module _ (f : Feed) (line line′ chunk : List ℕ) (m : Store) (r : Cut) (e : c
       → (feedingOf (record { run = f .run; length = r .length }) line′ m ≡ feedAll (feedingOf f line m) (take (r .used) chunk))
       × (_≡_ {A = List ℕ} [] (feedOutput (feedingOf f line m) (take (r .used) chunk)))
   goes-on h =
-      let open′ = failed-test (r .ended) h in
+      let open′ = not-true (r .ended) h in
       (sym (fed .0 ∙ ap (λ (b : Bool). after b .feeding) open′), sym (fed .1 ∙ ap (λ (b : Bool). after b .output) open′))
 
   -- the line has ended and is taken
@@ -39,7 +39,7 @@ module _ (f : Feed) (line line′ chunk : List ℕ) (m : Store) (r : Cut) (e : c
       → (feedingOf (record { run = t .run; length = 0 }) line′ m′ ≡ feedAll (feedingOf f line m) (take (r .used) chunk))
       × (take (t .length) out ≡ feedOutput (feedingOf f line m) (take (r .used) chunk))
   line-ends h t m′ out q =
-      let shut = passed-test (r .ended) h in (
+      let shut = not-false (r .ended) h in (
         ap (λ (s : Step). ended s .feeding) q ∙ sym (fed .0 ∙ ap (λ (b : Bool). after b .feeding) shut),
         ap (λ (s : Step). s .output) q ∙ sym (fed .1 ∙ ap (λ (b : Bool). after b .output) shut),
       )
@@ -50,7 +50,7 @@ module _ (f : Feed) (line line′ chunk : List ℕ) (m : Store) (r : Cut) (e : c
     kept-open h = record {
       used = w .used;
       moves = w .moves;
-      steady = record { sound = s .sound; pending = w .short (failed-test (r .ended) h); room = k ∙ s .room };
+      steady = record { sound = s .sound; pending = w .short (not-true (r .ended) h); room = k ∙ s .room };
       lines = omega arith;
       length = omega arith;
     }

@@ -15,7 +15,9 @@ pub(crate) struct Cut {
 // Reads a chunk up to the end of the line under way: a line feed, or the first byte too many.
 pub(crate) fn cut_line(chunk: &[u8], line: &mut [u8], from: usize) -> Cut
     requires { ⌜ (from ≤ longestLine) × (length (now line) ≡ longestLine + 1) ⌝ }
-    ensures { λ r. ⌜ cutTo (r .used) (take (r .length) (now (line .exit))) (r .ended) ≡ cutOf (take from (now (line .entry))) (now (chunk .entry)) ⌝ }
+    ensures { λ r. ⌜
+        cutTo (r .used) (take (r .length) (now (line .exit))) (r .ended)
+        ≡ cutOf (take from (now (line .entry))) (now (chunk .entry)) ⌝ }
     ensures { λ r. ⌜ CutWithin r (length (now (chunk .entry))) ⌝ }
 {
     let mut length = from;

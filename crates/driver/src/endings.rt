@@ -1,15 +1,17 @@
 // The end of the input: the last line that the chain program prints.
 ghost use mathlib.Core.Path.{_≡_};
-ghost use Prim.Native.Nat.{_+_, _^_, _≤_, _<_};
-ghost use lib.ListN.{length, take};
+ghost use Prim.Native.Nat.{_+_, _≤_};
+ghost use lib.ListN.{take};
+ghost use Rattle.chain.specs.Nodes.{nodeOf, nodeBefore};
 ghost use Rattle.chain.specs.Reports.{refusedLine};
-ghost use Rattle.states.specs.Lent.{Sound, Roomy, Ends};
+ghost use Rattle.chain.specs.Chain.{atEnd};
+ghost use Rattle.states.specs.Lent.{Whatever, withA, withFirst, stateOf, LentNode, Ready};
 use states::Due;
 use states::Run;
 
 // Refuses a missing line: answers the length of the line that says so.
 fn missing(state: Run, out: &mut [u8]) -> usize
-    requires { ⌜ Sound state × (state .line < 2 ^ 62) × Roomy (now out) ⌝ }
+    requires { ⌜ Ready state (now out) ⌝ }
     ensures { λ r. ⌜ (r ≤ 512) × (take r (now (out .exit)) ≡ refusedLine (state .line + 1) 13) ⌝ }
 {
     closing_reports::put_refused(out, state.line + 1, 13)
@@ -25,9 +27,12 @@ pub(crate) fn end(
     s1: &[i64],
     out: &mut [u8],
 ) -> usize
-    requires { ⌜ Sound state × (state .line < 2 ^ 62) × Roomy (now out) ⌝ }
-    requires { ⌜ (length (now a) ≡ 128) × (length (now t1) ≡ 16) × (length (now d1) ≡ 4) × (length (now s1) ≡ 32) ⌝ }
-    ensures { λ r. ⌜ Ends r state (now (a .entry)) (now (t1 .entry)) (now (d1 .entry)) (now (s1 .entry)) (now (rest .entry)) (now (out .exit)) ⌝ }
+    requires { ⌜ Ready state (now out) ⌝ }
+    requires { ⌜ LentNode (now a) (nodeOf (now t1) (now d1) (now s1)) ⌝ }
+    ensures { λ r. ⌜ Whatever
+        (λ m. take r (now (out .exit))
+        ≡ atEnd (stateOf state (withFirst (nodeBefore t1 d1 s1) (withA (now (a .entry)) m)))
+        (now (rest .entry))) ⌝ }
     ensures { λ r. ⌜ r ≤ 512 ⌝ }
 {
     let due = state.due;
@@ -51,10 +56,7 @@ pub(crate) fn end(
             );
             crate::last_line::put_end(out, state.folds, membership)
         }
-        Due::Param => missing(state, out),
-        Due::Matrix => missing(state, out),
-        Due::First => missing(state, out),
-        Due::Challenge => missing(state, out),
         Due::Nothing => 0,
+        _ => missing(state, out),
     }
 }

@@ -1,9 +1,12 @@
 // A feed: the run state, and the line under way.
 ghost use mathlib.Core.Path.{_≡_};
 ghost use Prim.Native.Nat.{_^_, _≤_, _<_};
-ghost use lib.ListN.{length};
-ghost use Rattle.states.specs.Lent.{Roomy};
-ghost use Rattle.driver.specs.Feeds.{Steady, Unfed, EndsFeed, SaysStopped};
+ghost use lib.ListN.{take};
+ghost use Rattle.chain.specs.Nodes.{nodeOf, nodeBefore};
+ghost use Rattle.chain.specs.Chain.{isStopped};
+ghost use Rattle.chain.specs.Program.{feedEnd};
+ghost use Rattle.states.specs.Lent.{Whatever, withA, withFirst, stateOf, LentNode, Roomy};
+ghost use Rattle.driver.specs.Feeds.{feedingOf, Steady, Unfed};
 use states::Due;
 use states::Run;
 
@@ -37,8 +40,11 @@ impl Feed {
         out: &mut [u8],
     ) -> usize
         requires { ⌜ Steady self (now line) × (self .run .line < 2 ^ 62) × Roomy (now out) ⌝ }
-        requires { ⌜ (length (now a) ≡ 128) × (length (now t1) ≡ 16) × (length (now d1) ≡ 4) × (length (now s1) ≡ 32) ⌝ }
-        ensures { λ r. ⌜ EndsFeed r self (now (line .entry)) (now (a .entry)) (now (t1 .entry)) (now (d1 .entry)) (now (s1 .entry)) (now (out .exit)) ⌝ }
+        requires { ⌜ LentNode (now a) (nodeOf (now t1) (now d1) (now s1)) ⌝ }
+        ensures { λ r. ⌜ Whatever (λ m.
+            take r (now (out .exit))
+            ≡ feedEnd (feedingOf self (now (line .entry))
+            (withFirst (nodeBefore t1 d1 s1) (withA (now (a .entry)) m)))) ⌝ }
         ensures { λ r. ⌜ r ≤ 512 ⌝ }
     {
         let run = self.run;
@@ -48,17 +54,13 @@ impl Feed {
 
     // Whether a line was refused, so that nothing more is to be read.
     pub(crate) fn has_stopped(self) -> bool
-        ensures { λ r. ⌜ SaysStopped r self ⌝ }
+        ensures { λ r. ⌜ Whatever (λ m. r ≡ isStopped (stateOf (self .run) m .stage)) ⌝ }
     {
         let run = self.run;
         let due = run.due;
         match due {
             Due::Nothing => true,
-            Due::Param => false,
-            Due::Matrix => false,
-            Due::First => false,
-            Due::Leaf => false,
-            Due::Challenge => false,
+            _ => false,
         }
     }
 }

@@ -12,7 +12,10 @@ use lova::Membership;
 // A tab and the word of a relation test, from `at` on; answers the place past it.
 fn put_membership(out: &mut [u8], at: usize, membership: Membership) -> usize
     requires { ⌜ at + 16 ≤ length (now out) ⌝ }
-    ensures { λ r. ⌜ (r ≡ at + length (tabbed (wordOf (membershipOf membership) ∷ []))) × (now (out .exit) ≡ written (now (out .entry)) at (tabbed (wordOf (membershipOf membership) ∷ []))) × (r ≤ at + 16) ⌝ }
+    ensures { λ r. ⌜
+        (r ≡ at + length (tabbed (wordOf (membershipOf membership) ∷ [])))
+        × (now (out .exit) ≡ written (now (out .entry)) at (tabbed (wordOf (membershipOf membership) ∷ [])))
+        × (r ≤ at + 16) ⌝ }
 {
     match membership {
         Membership::Member => field_writers::put_bytes(out, at, b"\tmember"),
@@ -26,7 +29,9 @@ fn put_membership(out: &mut [u8], at: usize, membership: Membership) -> usize
 // Writes the last line, with the count of folds and the relation test, and answers its length.
 pub(crate) fn put_end(out: &mut [u8], folds: u64, membership: Membership) -> usize
     requires { ⌜ 64 ≤ length (now out) ⌝ }
-    ensures { λ r. ⌜ (r ≤ length (now (out .exit))) × (take r (now (out .exit)) ≡ endLine folds (membershipOf membership)) ⌝ }
+    ensures { λ r. ⌜
+        (r ≤ length (now (out .exit)))
+        × (take r (now (out .exit)) ≡ endLine folds (membershipOf membership)) ⌝ }
 {
     let word = field_writers::put_bytes(out, 0, b"end");
     let after_number = field_writers::put_number(out, word, folds);

@@ -1,9 +1,8 @@
 // The whole program over a descriptor. Every program that runs a chain calls `run`. What the system reads and writes is
 // assumed of libc; what is done with the bytes is proved.
-ghost use mathlib.Core.Path.{_≡_};
 ghost use Prim.Native.Nat.{_^_, _<_};
-ghost use lib.ListN.{length};
-ghost use Rattle.states.specs.Lent.{Roomy};
+ghost use Rattle.chain.specs.Nodes.{nodeOf};
+ghost use Rattle.states.specs.Lent.{LentNode, Roomy};
 ghost use Rattle.driver.specs.Feeds.{Steady};
 
 mod chunks;
@@ -30,7 +29,7 @@ fn finish(
     out: &mut [u8],
 )
     requires { ⌜ Steady feed (now line) × (feed .run .line < 2 ^ 62) × Roomy (now out) ⌝ }
-    requires { ⌜ (length (now a) ≡ 128) × (length (now t1) ≡ 16) × (length (now d1) ≡ 4) × (length (now s1) ≡ 32) ⌝ }
+    requires { ⌜ LentNode (now a) (nodeOf (now t1) (now d1) (now s1)) ⌝ }
 {
     if got < 0 {
         io::write_all(2, b"the input cannot be read\n");

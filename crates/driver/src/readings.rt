@@ -3,7 +3,7 @@ ghost use mathlib.Core.Path.{_≡_};
 ghost use Prim.Native.Nat.{_^_, _<_};
 ghost use lib.ListN.{length, take};
 ghost use Rattle.chain.specs.Program.{feedAll, feedOutput};
-ghost use Rattle.states.specs.Lent.{Lent, Roomy};
+ghost use Rattle.states.specs.Lent.{store, storeBefore, storeAfter, Lent, Roomy};
 ghost use Rattle.driver.specs.Feeds.{feedingOf, Steady};
 ghost use Rattle.driver.specs.Readings.{FedWithin};
 use crate::feeds::Feed;
@@ -30,9 +30,15 @@ pub(crate) fn read(
     out: &mut [u8],
 ) -> Fed
     requires { ⌜ Steady feed (now line) × (feed .run .line < 2 ^ 62) × Roomy (now out) ⌝ }
-    requires { ⌜ Lent (record { A = now a; T₁ = now t1; D₁ = now d1; S₁ = now s1; T₂ = now t2; D₂ = now d2; S₂ = now s2 }) ⌝ }
-    ensures { λ r. ⌜ feedingOf (r .feed) (now (line .exit)) (record { A = now (a .exit); T₁ = now (t1 .exit); D₁ = now (d1 .exit); S₁ = now (s1 .exit); T₂ = now (t2 .exit); D₂ = now (d2 .exit); S₂ = now (s2 .exit) }) ≡ feedAll (feedingOf feed (now (line .entry)) (record { A = now (a .entry); T₁ = now (t1 .entry); D₁ = now (d1 .entry); S₁ = now (s1 .entry); T₂ = now (t2 .entry); D₂ = now (d2 .entry); S₂ = now (s2 .entry) })) (take (r .used) (now (chunk .entry))) ⌝ }
-    ensures { λ r. ⌜ take (r .length) (now (out .exit)) ≡ feedOutput (feedingOf feed (now (line .entry)) (record { A = now (a .entry); T₁ = now (t1 .entry); D₁ = now (d1 .entry); S₁ = now (s1 .entry); T₂ = now (t2 .entry); D₂ = now (d2 .entry); S₂ = now (s2 .entry) })) (take (r .used) (now (chunk .entry))) ⌝ }
+    requires { ⌜ Lent (store (now a) (now t1) (now d1) (now s1) (now t2) (now d2) (now s2)) ⌝ }
+    ensures { λ r. ⌜
+        feedingOf (r .feed) (now (line .exit)) (storeAfter a t1 d1 s1 t2 d2 s2)
+        ≡ feedAll (feedingOf feed (now (line .entry)) (storeBefore a t1 d1 s1 t2 d2 s2))
+        (take (r .used) (now (chunk .entry))) ⌝ }
+    ensures { λ r. ⌜
+        take (r .length) (now (out .exit))
+        ≡ feedOutput (feedingOf feed (now (line .entry)) (storeBefore a t1 d1 s1 t2 d2 s2))
+        (take (r .used) (now (chunk .entry))) ⌝ }
     ensures { λ r. ⌜ FedWithin r feed (now (line .exit)) (length (now (chunk .entry))) ⌝ }
 {
     let run = feed.run;

@@ -1,5 +1,5 @@
--- D~ and T~ times the gadget G as the verifier sums them up: by the k entries of a block, with the powers of a rebuilt setting.
-use mathlib.Core.Path.{_≡_, sym, _∙_, ap, ap₂}
+-- D~ and T~ times the gadget G as the verifier sums them up: by the k entries of a block, with the powers that it is handed.
+use mathlib.Core.Path.{_≡_, refl, sym, _∙_, ap, ap₂}
 use mathlib.Core.List.{List}
 use Prim.Native.Nat.{ℕ, _+_, _*_, _^_, _<_, _≤_}
 use native.Mathlib.Omega.{arith}
@@ -14,95 +14,101 @@ use Rattle.matrices.proofs.Matrices.{product-assoc, transposed-product}
 use Rattle.matrices.proofs.Tables.{row-within}
 use Rattle.settings.specs.declared.Setting.{Setting}
 use Rattle.settings.specs.Settings.{Parameters, kOf, NOf, HOf, parametersOf}
-use Rattle.settings.proofs.Powers.{length-powers}
+use Rattle.settings.proofs.Accepted.{Accepted, accepted}
+use Rattle.settings.proofs.Powers.{length-powers, powers-at}
 use Rattle.lova.specs.Calls.{Rebuilt, Bounded}
 use Rattle.lova.specs.Fold.{gadget}
 use Rattle.lova.proofs.Gadget.{columns-blocks, gadget-right}
 use Rattle.lova.proofs.NeverWraps.{recomposed-first, recomposed-second}
-use Rattle.lova.proofs.Rebuilding.{rebuilt-accepted, k-is, N-is, power-is}
-use Rattle.equations.specs.Blocks.{entryTerm, rowTerm}
+use Rattle.lova.proofs.Rebuilding.{k-is, N-is}
+use Rattle.equations.specs.Blocks.{Handed, entryTerm, rowTerm}
 
--- the entries of block j of row x as they are stored, each times its power as it is stored
-abbrev pub blockTerm : {A : Type 0} → Setting → (A → ℤ) → A → List A → ℕ → ℕ → ℕ → ℤ
-blockTerm s value d xs x j q = value (getD xs (x * s .columns + j * s .k + q) d) *ℤ pos (getD (s .powers) q 0)
+-- a comparison is handed what stands in a setting that was built anew
+pub handed : {s : Setting} → Rebuilt s → Handed (parametersOf s) (s .t) (s .k) (s .columns) (s .powers)
+handed {s} r = record { ok = r .ok; t-is = refl; k-is = k-is s r; N-is = N-is s r; powers-are = ap (λ (x : Setting). x .powers) (r .whole) }
 
-module _ (s : Setting) (r : Rebuilt s) where
-  abbrev p : Parameters
-  p = parametersOf s
+module _ {p : Parameters} {t k columns : ℕ} {powers : List ℕ} (h : Handed p t k columns powers) where
+  facts : Accepted p
+  facts = accepted p (h .ok)
 
-  -- a setting has place for its k powers, and each is a signed word
-  pub powers-long : s .k ≤ length (s .powers)
-  powers-long = rw (ap (λ (x : Setting). length (x .powers)) (r .whole), length-powers (s .b) (kOf p), k-is s r) (rebuilt-accepted s r .k-high)
+  -- there are k powers, power q is b^q, and each is a signed word
+  pub powers-long : k ≤ length powers
+  powers-long = rw (h .powers-are, length-powers (p .b) (kOf p), h .k-is) (facts .k-high)
 
-  pub power-fits : (q : ℕ) → q < s .k → getD (s .powers) q 0 < 2 ^ 63
-  power-fits q h =
-      let l : q < kOf p = rw (← k-is s r) h in
-      rw (power-is s r q l) (omega (arith, pow-le-pow-right {n = s .b} (omega (arith, rebuilt-accepted s r .b-low)) {i = q} {j = kOf p} (omega arith), rebuilt-accepted s r .powers-fit))
+  power-is : (q : ℕ) → q < kOf p → getD powers q 0 ≡ p .b ^ q
+  power-is q l = ap (λ (x : List ℕ). getD x q 0) (h .powers-are) ∙ powers-at (p .b) (kOf p) q l (facts .k-high)
+
+  pub power-fits : (q : ℕ) → q < k → getD powers q 0 < 2 ^ 63
+  power-fits q l =
+      let below : q < kOf p = rw (← h .k-is) l in
+      rw (power-is q below) (omega (arith, pow-le-pow-right {n = p .b} (omega (arith, facts .b-low)) {i = q} {j = kOf p} (omega arith), facts .powers-fit))
 
   -- the k columns of block j are columns of T~ and D~
-  pub block-below : (j : ℕ) → j < 2 * s .t → j * s .k + s .k ≤ s .columns
-  block-below j h = rw (N-is s r, k-is s r) (omega (arith, row-within (2 * s .t) (kOf p) j h, columns-blocks p))
+  pub block-below : (j : ℕ) → j < 2 * t → j * k + k ≤ columns
+  block-below j l = rw (h .N-is, h .k-is) (omega (arith, row-within (2 * p .t) (kOf p) j (rw (← h .t-is) l), columns-blocks p))
 
   -- the k rows of block i lie within D~
-  pub rows-below : (i : ℕ) → i < 2 * s .t → (i * s .k + s .k) * s .columns ≤ NOf p * NOf p
-  rows-below i h = rw (← N-is s r) (mul-le-mul-right (s .columns) (block-below i h))
+  pub rows-below : (i : ℕ) → i < 2 * t → (i * k + k) * columns ≤ NOf p * NOf p
+  rows-below i l = rw (← h .N-is) (mul-le-mul-right columns (block-below i l))
 
   -- block j of row x lies within its list
-  pub block-within : (rows x j : ℕ) → x < rows → j < 2 * s .t → x * s .columns + j * s .k + s .k ≤ rows * NOf p
-  block-within rows x j hx hj = rw (← N-is s r) (omega (arith, row-within rows (s .columns) x hx, block-below j hj))
+  pub block-within : (rows x j : ℕ) → x < rows → j < 2 * t → x * columns + j * k + k ≤ rows * NOf p
+  block-within rows x j hx hj = rw (← h .N-is) (omega (arith, row-within rows columns x hx, block-below j hj))
 
   module _ {A : Type 0} (value : A → ℤ) (d : A) (xs : List A) (x j : ℕ) where
+    -- the entries of block j of row x as they are stored, each times its power as it is stored
     abbrev term : ℕ → ℤ
-    term = blockTerm s value d xs x j
+    term q = value (getD xs (x * columns + j * k + q) d) *ℤ pos (getD powers q 0)
 
-    block-term : (q : ℕ) → q < kOf p → term q ≡ entries value d (NOf p) xs x (j * kOf p + q) *ℤ pos (s .b ^ q)
-    block-term q h =
-        let place : x * s .columns + j * s .k + q ≡ x * NOf p + (j * kOf p + q) = rw (N-is s r, k-is s r) (omega arith) in
-        ap₂ (λ (y b : ℕ). value (getD xs y d) *ℤ pos b) place (power-is s r q h)
+    block-term : (q : ℕ) → q < kOf p → term q ≡ entries value d (NOf p) xs x (j * kOf p + q) *ℤ pos (p .b ^ q)
+    block-term q l =
+        let place : x * columns + j * k + q ≡ x * NOf p + (j * kOf p + q) = rw (h .N-is, h .k-is) (omega arith) in
+        ap₂ (λ (y b : ℕ). value (getD xs y d) *ℤ pos b) place (power-is q l)
 
     -- a block's terms add up to entry (x, j) of X G
-    pub block-sum : j < 2 * s .t → sum (s .k) term ≡ product (NOf p) (entries value d (NOf p) xs) (gadget p) x j
+    pub block-sum : j < 2 * t → sum k term ≡ product (NOf p) (entries value d (NOf p) xs) (gadget p) x j
     block-sum hj =
-        ap (λ (n : ℕ). sum n term) (k-is s r)
-        ∙ sum-cong (kOf p) term (λ q. entries value d (NOf p) xs x (j * kOf p + q) *ℤ pos (s .b ^ q)) block-term
-        ∙ sym (gadget-right p (entries value d (NOf p) xs) x j hj)
+        ap (λ (n : ℕ). sum n term) (h .k-is)
+        ∙ sum-cong (kOf p) term (λ q. entries value d (NOf p) xs x (j * kOf p + q) *ℤ pos (p .b ^ q)) block-term
+        ∙ sym (gadget-right p (entries value d (NOf p) xs) x j (rw (← h .t-is) hj))
 
-  -- D~ within H
-  module _ (D : List ℤ) (small : Bounded (NOf p) (NOf p) (HOf p) (signed (NOf p) D)) (i j : ℕ) (hi : i < 2 * s .t) (hj : j < 2 * s .t) where
+  module _ (D : List ℤ) (i j : ℕ) (hi : i < 2 * t) (hj : j < 2 * t) where
     abbrev X : Matrix
     X = signed (NOf p) D
 
     abbrev row : ℕ → ℤ
-    row = rowTerm D (s .columns) (s .powers) (s .k) i j
+    row = rowTerm D columns powers k i j
 
-    row-term : (q : ℕ) → q < kOf p → row q ≡ product (NOf p) X (gadget p) (i * kOf p + q) j *ℤ pos (s .b ^ q)
-    row-term q h =
+    row-term : (q : ℕ) → q < kOf p → row q ≡ product (NOf p) X (gadget p) (i * kOf p + q) j *ℤ pos (p .b ^ q)
+    row-term q l =
         ap₂ (λ (z : ℤ) (b : ℕ). z *ℤ pos b)
-        (block-sum (λ z. z) (pos 0) D (i * s .k + q) j hj ∙ ap (λ (k : ℕ). product (NOf p) X (gadget p) (i * k + q) j) (k-is s r)) (power-is s r q h)
+        (block-sum (λ z. z) (pos 0) D (i * k + q) j hj ∙ ap (λ (k : ℕ). product (NOf p) X (gadget p) (i * k + q) j) (h .k-is)) (power-is q l)
 
     -- the rows' terms add up to entry (i, j) of G-transposed D~ G
-    pub by-rows : sum (s .k) row ≡ bothSides (NOf p) (gadget p) X i j
+    pub by-rows : sum k row ≡ bothSides (NOf p) (gadget p) X i j
     by-rows =
-        ap (λ (n : ℕ). sum n row) (k-is s r)
-        ∙ sum-cong (kOf p) row (λ q. product (NOf p) X (gadget p) (i * kOf p + q) j *ℤ pos (s .b ^ q)) row-term
-        ∙ sym (gadget-right p (transposed (product (NOf p) X (gadget p))) j i hi)
+        ap (λ (n : ℕ). sum n row) (h .k-is)
+        ∙ sum-cong (kOf p) row (λ q. product (NOf p) X (gadget p) (i * kOf p + q) j *ℤ pos (p .b ^ q)) row-term
+        ∙ sym (gadget-right p (transposed (product (NOf p) X (gadget p))) j i (rw (← h .t-is) hi))
         ∙ transposed-product (NOf p) (transposed (product (NOf p) X (gadget p))) (gadget p) i j
         ∙ sym (product-assoc (NOf p) (NOf p) (transposed (gadget p)) X (gadget p) i j)
 
-    turned : Bounded (NOf p) (NOf p) (HOf p) (transposed X)
-    turned x y hx hy = small y x hy hx
+    -- D~ within H
+    module _ (small : Bounded (NOf p) (NOf p) (HOf p) X) where
+      turned : Bounded (NOf p) (NOf p) (HOf p) (transposed X)
+      turned x y hx hy = small y x hy hx
 
-    -- neither sum leaves a signed word
-    pub block-fits : (q : ℕ) → q < s .k → sumℕ (s .k) (λ u. natAbs (entryTerm D (s .columns) (s .powers) (s .k) i j q u)) < 2 ^ 63
-    block-fits q h =
-        let is : sumℕ (s .k) (λ u. natAbs (entryTerm D (s .columns) (s .powers) (s .k) i j q u)) ≡ sumℕ (kOf p) (λ u. natAbs (X (i * kOf p + q) (j * kOf p + u) *ℤ pos (s .b ^ u))) =
-        ap (λ (n : ℕ). sumℕ n (λ u. natAbs (entryTerm D (s .columns) (s .powers) (s .k) i j q u))) (k-is s r)
-        ∙ sumℕ-cong (kOf p) _ _ (λ u l. ap natAbs (block-term (λ z. z) (pos 0) D (i * s .k + q) j u l) ∙ ap (λ (k : ℕ). natAbs (X (i * k + q) (j * kOf p + u) *ℤ pos (s .b ^ u))) (k-is s r)) in
-        rw is (omega (arith, recomposed-first p (rebuilt-accepted s r) (transposed X) turned j i hj hi q (rw (← k-is s r) h)))
+      -- neither sum leaves a signed word
+      pub block-fits : (q : ℕ) → q < k → sumℕ k (λ u. natAbs (entryTerm D columns powers k i j q u)) < 2 ^ 63
+      block-fits q l =
+          let is : sumℕ k (λ u. natAbs (entryTerm D columns powers k i j q u)) ≡ sumℕ (kOf p) (λ u. natAbs (X (i * kOf p + q) (j * kOf p + u) *ℤ pos (p .b ^ u))) =
+          ap (λ (n : ℕ). sumℕ n (λ u. natAbs (entryTerm D columns powers k i j q u))) (h .k-is)
+          ∙ sumℕ-cong (kOf p) _ _ (λ u l. ap natAbs (block-term (λ z. z) (pos 0) D (i * k + q) j u l) ∙ ap (λ (k : ℕ). natAbs (X (i * k + q) (j * kOf p + u) *ℤ pos (p .b ^ u))) (h .k-is)) in
+          rw is (omega (arith, recomposed-first p facts (transposed X) turned j i (rw (← h .t-is) hj) (rw (← h .t-is) hi) q (rw (← h .k-is) l)))
 
-    pub rows-fit : sumℕ (s .k) (λ q. natAbs (row q)) < 2 ^ 63
-    rows-fit =
-        let is : sumℕ (s .k) (λ q. natAbs (row q)) ≡ sumℕ (kOf p) (λ q. natAbs (sum (kOf p) (λ u. X (i * kOf p + q) (j * kOf p + u) *ℤ pos (s .b ^ u)) *ℤ pos (s .b ^ q))) =
-        ap (λ (n : ℕ). sumℕ n (λ q. natAbs (row q))) (k-is s r)
-        ∙ sumℕ-cong (kOf p) _ _ (λ q h. ap natAbs (row-term q h ∙ ap (λ (z : ℤ). z *ℤ pos (s .b ^ q)) (gadget-right p X (i * kOf p + q) j hj))) in
-        rw is (omega (arith, recomposed-second p (rebuilt-accepted s r) (transposed X) turned j i hj hi))
+      pub rows-fit : sumℕ k (λ q. natAbs (row q)) < 2 ^ 63
+      rows-fit =
+          let is : sumℕ k (λ q. natAbs (row q)) ≡ sumℕ (kOf p) (λ q. natAbs (sum (kOf p) (λ u. X (i * kOf p + q) (j * kOf p + u) *ℤ pos (p .b ^ u)) *ℤ pos (p .b ^ q))) =
+          ap (λ (n : ℕ). sumℕ n (λ q. natAbs (row q))) (h .k-is)
+          ∙ sumℕ-cong (kOf p) _ _ (λ q l. ap natAbs (row-term q l ∙ ap (λ (z : ℤ). z *ℤ pos (p .b ^ q)) (gadget-right p X (i * kOf p + q) j (rw (← h .t-is) hj)))) in
+          rw is (omega (arith, recomposed-second p facts (transposed X) turned j i (rw (← h .t-is) hj) (rw (← h .t-is) hi)))

@@ -1,9 +1,19 @@
 -- Blocks of k rows and k columns of a matrix x that is stored by rows, summed up by powers.
+use mathlib.Core.Path.{_≡_}
 use mathlib.Core.List.{List}
 use Prim.Native.Nat.{ℕ, _+_, _*_}
 use lib.IntN.{ℤ, pos, _*ℤ_}
 use lib.ListN.{getD}
 use Rattle.integers.specs.Sums.{sum}
+use Rattle.settings.specs.Settings.{Parameters, kOf, NOf, settingRefusal, powersOf}
+
+-- t, k, N and the powers are those of p, which is accepted: what a comparison is handed in place of a setting
+pub record Handed (p : Parameters) (t k columns : ℕ) (powers : List ℕ) : Type 0 where
+  pub ok : settingRefusal p ≡ 0
+  pub t-is : t ≡ p .t
+  pub k-is : k ≡ kOf p
+  pub N-is : columns ≡ NOf p
+  pub powers-are : powers ≡ powersOf (p .b) (kOf p)
 
 module _ (x : List ℤ) (columns : ℕ) (powers : List ℕ) (k i j : ℕ) where
   -- entry (q, u) of block (i, j), times power u

@@ -8,8 +8,10 @@ ghost use Rattle.lova.specs.Fold.{beside, blocks};
 
 // Entry (i, j) of [t1 t2]; both have `cols` columns.
 pub(crate) fn joined_t(t1: &[u64], t2: &[u64], rows: usize, cols: usize, i: usize, j: usize) -> u64
-    requires { ⌜ (length (now t1) ≡ rows * cols) × (length (now t2) ≡ rows * cols) × (i < rows) × (j < 2 * cols) ⌝ }
-    ensures { λ r. ⌜ pos r ≡ beside cols (unsigned cols (now (t1 .entry))) (unsigned cols (now (t2 .entry))) i j ⌝ }
+    requires { ⌜ (length (now t1) ≡ rows * cols) × (length (now t2) ≡ rows * cols) × (i < rows)
+        × (j < 2 * cols) ⌝ }
+    ensures { λ r. ⌜ pos r
+        ≡ beside cols (unsigned cols (now (t1 .entry))) (unsigned cols (now (t2 .entry))) i j ⌝ }
 {
     if j < cols {
         t1[i * cols + j]
@@ -28,8 +30,11 @@ fn at(x: &[i64], cols: usize, i: usize, j: usize) -> i64
 
 // Entry (i, j) of [d1 v; v-transposed d2]; all three have `cols` rows and columns.
 pub(crate) fn joined_d(d1: &[i64], v: &[i64], d2: &[i64], cols: usize, i: usize, j: usize) -> i64
-    requires { ⌜ (length (now d1) ≡ cols * cols) × (length (now v) ≡ cols * cols) × (length (now d2) ≡ cols * cols) × (i < 2 * cols) × (j < 2 * cols) ⌝ }
-    ensures { λ r. ⌜ r ≡ blocks cols (signed cols (now (d1 .entry))) (signed cols (now (v .entry))) (signed cols (now (d2 .entry))) i j ⌝ }
+    requires { ⌜ (length (now d1) ≡ cols * cols) × (length (now v) ≡ cols * cols)
+        × (length (now d2) ≡ cols * cols) × (i < 2 * cols) × (j < 2 * cols) ⌝ }
+    ensures { λ r. ⌜ r
+        ≡ blocks cols (signed cols (now (d1 .entry))) (signed cols (now (v .entry)))
+        (signed cols (now (d2 .entry))) i j ⌝ }
 {
     if i < cols {
         if j < cols {

@@ -1,5 +1,4 @@
-// Blocks of entries summed up by powers, as a number is by its digits: exactly, and modulo 2^64. The functions take numbers
-// and slices, no setting: they are called for every entry that is compared, and a setting would be copied each time.
+// Blocks of entries summed up by powers, as a number is by its digits: exactly, and modulo 2^64.
 ghost use mathlib.Core.Path.{_≡_};
 ghost use Prim.Native.Nat.{ℕ, _+_, _*_, _^_, _<_, _≤_};
 ghost use lib.IntN.{pos, natAbs, _*ℤ_};
@@ -10,20 +9,24 @@ ghost use Rattle.equations.specs.Blocks.{entryTerm, rowTerm};
 
 // k entries of x, from `start` on, each times its power, exactly: no partial sum leaves a signed word.
 fn weighted(x: &[i64], start: usize, powers: &[u64], k: usize) -> i64
-    requires { ⌜ (start + k ≤ length (now x)) × (k ≤ length (now powers)) × (((q : ℕ) → q < k → getD (now powers) q 0 < 2 ^ 63)) ⌝ }
-    requires { ⌜ sumℕ k (λ q. natAbs (getD (now x) (start + q) (pos 0) *ℤ pos (getD (now powers) q 0))) < 2 ^ 63 ⌝ }
-    ensures { λ r. ⌜ r ≡ sum k (λ q. getD (now (x .entry)) (start + q) (pos 0) *ℤ pos (getD (now (powers .entry)) q 0)) ⌝ }
+    requires { ⌜ (start + k ≤ length (now x)) × (k ≤ length (now powers))
+        × ((q : ℕ) → q < k → getD (now powers) q 0 < 2 ^ 63) ⌝ }
+    requires { ⌜ sumℕ k (λ q. natAbs (getD (now x) (start + q) (pos 0) *ℤ pos (getD (now powers) q 0)))
+        < 2 ^ 63 ⌝ }
+    ensures { λ r. ⌜ r
+        ≡ sum k (λ q. getD (now (x .entry)) (start + q) (pos 0) *ℤ pos (getD (now (powers .entry)) q 0)) ⌝ }
 {
     let mut sum: i64 = 0;
     let mut q: usize = 0;
     while q < k {
-        sum += x[start + q] * powers[q] as i64;
+        sum = matrices::add_product(sum, x[start + q], powers[q] as i64);
         q += 1;
     }
     sum
 }
 
-// The sum of block (i, j) of x, of k rows and k columns: each entry times the powers of its column and of its row, exactly.
+// The sum of block (i, j) of x, of k rows and k columns: each entry times the powers of its column and of its row,
+// exactly.
 pub(crate) fn weighted_block(
     x: &[i64],
     columns: usize,
@@ -32,15 +35,19 @@ pub(crate) fn weighted_block(
     powers: &[u64],
     k: usize,
 ) -> i64
-    requires { ⌜ ((i * k + k) * columns ≤ length (now x)) × (j * k + k ≤ columns) × (k ≤ length (now powers)) × ((q : ℕ) → q < k → getD (now powers) q 0 < 2 ^ 63) ⌝ }
-    requires { ⌜ ((q : ℕ) → q < k → sumℕ k (λ u. natAbs (entryTerm (now x) columns (now powers) k i j q u)) < 2 ^ 63) × (sumℕ k (λ q. natAbs (rowTerm (now x) columns (now powers) k i j q)) < 2 ^ 63) ⌝ }
+    requires { ⌜ ((i * k + k) * columns ≤ length (now x)) × (j * k + k ≤ columns) × (k ≤ length (now powers))
+        × ((q : ℕ) → q < k → getD (now powers) q 0 < 2 ^ 63) ⌝ }
+    requires { ⌜ ((q : ℕ) → q < k
+        → sumℕ k (λ u. natAbs (entryTerm (now x) columns (now powers) k i j q u)) < 2 ^ 63)
+        × (sumℕ k (λ q. natAbs (rowTerm (now x) columns (now powers) k i j q)) < 2 ^ 63) ⌝ }
     ensures { λ r. ⌜ r ≡ sum k (rowTerm (now (x .entry)) columns (now (powers .entry)) k i j) ⌝ }
 {
     let mut sum: i64 = 0;
     let mut q: usize = 0;
     while q < k {
         let start = (i * k + q) * columns + j * k;
-        sum += weighted(x, start, powers, k) * powers[q] as i64;
+        let row = weighted(x, start, powers, k);
+        sum = matrices::add_product(sum, row, powers[q] as i64);
         q += 1;
     }
     sum
@@ -49,12 +56,14 @@ pub(crate) fn weighted_block(
 // k entries of x, from `start` on, each times its power, modulo 2^64.
 pub(crate) fn weighted_words(x: &[u64], start: usize, powers: &[u64], k: usize) -> u64
     requires { ⌜ (start + k ≤ length (now x)) × (k ≤ length (now powers)) ⌝ }
-    ensures { λ r. ⌜ r ≡ word (sum k (λ q. pos (getD (now (x .entry)) (start + q) 0) *ℤ pos (getD (now (powers .entry)) q 0))) ⌝ }
+    ensures { λ r. ⌜ r
+        ≡ word
+        (sum k (λ q. pos (getD (now (x .entry)) (start + q) 0) *ℤ pos (getD (now (powers .entry)) q 0))) ⌝ }
 {
     let mut sum: u64 = 0;
     let mut q: usize = 0;
     while q < k {
-        sum = std::num::wrapping_add_u64(sum, integers::wrapping_mul(x[start + q], powers[q]));
+        sum = matrices::add_word_product(sum, x[start + q], powers[q]);
         q += 1;
     }
     sum

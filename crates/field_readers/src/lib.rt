@@ -8,7 +8,9 @@ use numerals::ParsedU64;
 // Reads the numbers of a line that begins with the word: as many as `out` holds, and no more.
 // Where it answers false, what `out` holds is not stated.
 pub fn read_u64s(line: &[u8], word: &[u8], out: &mut [u64]) -> bool
-    ensures { λ r. ⌜ answerOf r (now (out .exit)) ≡ recordOf readU64 (now (word .entry)) (length (now (out .entry))) (now (line .entry)) ⌝ }
+    ensures { λ r. ⌜
+        answerOf r (now (out .exit))
+        ≡ recordOf readU64 (now (word .entry)) (length (now (out .entry))) (now (line .entry)) ⌝ }
 {
     if !text::begins(line, word) {
         return false;
@@ -36,7 +38,9 @@ pub fn read_u64s(line: &[u8], word: &[u8], out: &mut [u64]) -> bool
 
 // As `read_u64s`, for signed numbers.
 pub fn read_i64s(line: &[u8], word: &[u8], out: &mut [i64]) -> bool
-    ensures { λ r. ⌜ answerOf r (now (out .exit)) ≡ recordOf readI64 (now (word .entry)) (length (now (out .entry))) (now (line .entry)) ⌝ }
+    ensures { λ r. ⌜
+        answerOf r (now (out .exit))
+        ≡ recordOf readI64 (now (word .entry)) (length (now (out .entry))) (now (line .entry)) ⌝ }
 {
     if !text::begins(line, word) {
         return false;

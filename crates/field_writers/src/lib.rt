@@ -10,7 +10,9 @@ ghost use Rattle.text.specs.Lines.{tabbed};
 // Copies s to the buffer from `at` on, and answers the place past it.
 pub fn put_bytes(buf: &mut [u8], at: usize, s: &[u8]) -> usize
     requires { ⌜ at + length (now s) ≤ length (now buf) ⌝ }
-    ensures { λ r. ⌜ (r ≡ at + length (now (s .entry))) × (now (buf .exit) ≡ written (now (buf .entry)) at (now (s .entry))) ⌝ }
+    ensures { λ r. ⌜
+        (r ≡ at + length (now (s .entry)))
+        × (now (buf .exit) ≡ written (now (buf .entry)) at (now (s .entry))) ⌝ }
 {
     let mut i: usize = 0;
     while i < s.len() {
@@ -20,10 +22,14 @@ pub fn put_bytes(buf: &mut [u8], at: usize, s: &[u8]) -> usize
     at + s.len()
 }
 
-// Writes a tab and a numeral for each number, from `at` on, and answers the place past them. A tab and a numeral take at most 21 bytes.
+// Writes a tab and a numeral for each number, from `at` on, and answers the place past them. A tab and a numeral take
+// at most 21 bytes.
 pub fn put_u64s(buf: &mut [u8], at: usize, vs: &[u64]) -> usize
     requires { ⌜ at + 21 * length (now vs) ≤ length (now buf) ⌝ }
-    ensures { λ r. ⌜ (r ≡ at + length (tabbed (map decimal (now (vs .entry))))) × (now (buf .exit) ≡ written (now (buf .entry)) at (tabbed (map decimal (now (vs .entry))))) × (r ≤ at + 21 * length (now (vs .entry))) ⌝ }
+    ensures { λ r. ⌜
+        (r ≡ at + length (tabbed (map decimal (now (vs .entry)))))
+        × (now (buf .exit) ≡ written (now (buf .entry)) at (tabbed (map decimal (now (vs .entry)))))
+        × (r ≤ at + 21 * length (now (vs .entry))) ⌝ }
 {
     let mut to = at;
     let mut i: usize = 0;
@@ -38,7 +44,10 @@ pub fn put_u64s(buf: &mut [u8], at: usize, vs: &[u64]) -> usize
 // A tab and a number, from `at` on; answers the place past it.
 pub fn put_number(buf: &mut [u8], at: usize, number: u64) -> usize
     requires { ⌜ at + 21 ≤ length (now buf) ⌝ }
-    ensures { λ r. ⌜ (r ≡ at + length (tabbed (decimal number ∷ []))) × (now (buf .exit) ≡ written (now (buf .entry)) at (tabbed (decimal number ∷ []))) × (r ≤ at + 21) ⌝ }
+    ensures { λ r. ⌜
+        (r ≡ at + length (tabbed (decimal number ∷ [])))
+        × (now (buf .exit) ≡ written (now (buf .entry)) at (tabbed (decimal number ∷ [])))
+        × (r ≤ at + 21) ⌝ }
 {
     let one = [number];
     put_u64s(buf, at, &one)

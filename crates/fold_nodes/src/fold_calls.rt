@@ -1,12 +1,12 @@
-// The calls of a fold: message, folded witness and verdict. Settings are those that the chain program takes, so that the
-// message stands in local arrays.
+// The calls of a fold: message, folded witness and verdict. Settings are those that the chain program takes, so that
+// the message stands in local arrays.
 ghost use mathlib.Core.Path.{_≡_};
 ghost use mathlib.Core.Bool.{true};
 ghost use Rattle.settings.specs.Settings.{parametersOf};
 ghost use Rattle.lova.specs.Answers.{ends, answerOf, verdictOf};
 ghost use Rattle.lova.specs.Calls.{Rebuilt};
 ghost use Rattle.chain.specs.Limits.{small, programLimits};
-ghost use Rattle.chain.specs.Nodes.{nodeOf, foldAnswer, callsOf};
+ghost use Rattle.chain.specs.Nodes.{nodeBefore, nodeAfter, foldAnswer, callsOf};
 use lova::Answer;
 use lova::Verdict;
 use settings::Setting;
@@ -41,7 +41,10 @@ pub(crate) fn calls(
 ) -> Verdict
     requires { ⌜ Rebuilt setting ⌝ }
     requires { ⌜ small programLimits (parametersOf setting) ≡ true ⌝ }
-    ensures { λ r. ⌜ ends (verdictOf r) (nodeOf (now (t .exit)) (now (d .exit)) (now (s .exit))) ≡ callsOf (parametersOf setting) (now (a .entry)) (nodeOf (now (t1 .entry)) (now (d1 .entry)) (now (s1 .entry))) (nodeOf (now (t2 .entry)) (now (d2 .entry)) (now (s2 .entry))) (now (c .entry)) (nodeOf (now (t .entry)) (now (d .entry)) (now (s .entry))) ⌝ }
+    ensures { λ r. ⌜
+        ends (verdictOf r) (nodeAfter t d s)
+        ≡ callsOf (parametersOf setting) (now (a .entry)) (nodeBefore t1 d1 s1) (nodeBefore t2 d2 s2)
+        (now (c .entry)) (nodeBefore t d s) ⌝ }
 {
     let mut v = [0i64; 4];
     let mut tt = [0u64; 256];

@@ -1,12 +1,12 @@
-// A fold of two nodes of a chain. Settings are those that the chain program takes, so that all matrices stand in local arrays.
+// A fold of two nodes of a chain. Settings are those that the chain program takes, so that all matrices stand in local
+// arrays.
 ghost use mathlib.Core.Path.{_≡_};
 ghost use mathlib.Core.Bool.{true};
 ghost use Rattle.settings.specs.Settings.{parametersOf};
 ghost use Rattle.lova.specs.Answers.{ends, verdictOf};
-ghost use Rattle.lova.specs.Stored.{matrixT, matrixS, matrixD};
-ghost use Rattle.lova.specs.Calls.{Rebuilt, Fits};
+ghost use Rattle.lova.specs.Calls.{Rebuilt};
 ghost use Rattle.chain.specs.Limits.{small, programLimits};
-ghost use Rattle.chain.specs.Nodes.{nodeOf, refuses, foldOf};
+ghost use Rattle.chain.specs.Nodes.{nodeOf, FitsNode, nodeBefore, nodeAfter, refuses, foldOf};
 
 mod fold_calls;
 
@@ -19,9 +19,7 @@ fn is_refusal(verdict: Verdict) -> bool
 {
     match verdict {
         Verdict::Refused(_) => true,
-        Verdict::Yes => false,
-        Verdict::Norm => false,
-        Verdict::Commitment => false,
+        _ => false,
     }
 }
 
@@ -39,8 +37,11 @@ pub fn fold(
 ) -> Verdict
     requires { ⌜ Rebuilt setting ⌝ }
     requires { ⌜ small programLimits (parametersOf setting) ≡ true ⌝ }
-    requires { ⌜ Fits (matrixT (parametersOf setting)) (now t1) × Fits (matrixD (parametersOf setting)) (now d1) × Fits (matrixS (parametersOf setting)) (now s1) ⌝ }
-    ensures { λ r. ⌜ ends (verdictOf r) (nodeOf (now (t1 .exit)) (now (d1 .exit)) (now (s1 .exit))) ≡ foldOf (parametersOf setting) (now (a .entry)) (nodeOf (now (t1 .entry)) (now (d1 .entry)) (now (s1 .entry))) (nodeOf (now (t2 .entry)) (now (d2 .entry)) (now (s2 .entry))) (now (c .entry)) ⌝ }
+    requires { ⌜ FitsNode (parametersOf setting) (nodeOf (now t1) (now d1) (now s1)) ⌝ }
+    ensures { λ r. ⌜
+        ends (verdictOf r) (nodeAfter t1 d1 s1)
+        ≡ foldOf (parametersOf setting) (now (a .entry)) (nodeBefore t1 d1 s1) (nodeBefore t2 d2 s2)
+        (now (c .entry)) ⌝ }
 {
     let mut t = [0u64; 16];
     let mut d = [0i64; 4];

@@ -112,6 +112,11 @@ pub sumℕ-mono : (n m : ℕ) (f : ℕ → ℕ) → n ≤ m → sumℕ n f ≤ s
 unfolding sumℕ
 sumℕ-mono n m f h = le-ind (λ (k : ℕ). sumℕ n f ≤ sumℕ k f) (le-refl (sumℕ n f)) (λ k l p. le-trans p (le-add-right (sumℕ k f) (f k))) m h
 
+pub sumℕ-split : (a b : ℕ) (f : ℕ → ℕ) → sumℕ (a + b) f ≡ sumℕ a f + sumℕ b (λ q. f (a + q))
+unfolding sumℕ
+sumℕ-split a zero f = rw (add-zero a) (omega arith)
+sumℕ-split a (suc b) f = rw (add-suc a b, sumℕ-split a b f) (omega arith)
+
 pub sumℕ-term : (n i : ℕ) (f : ℕ → ℕ) → i < n → f i ≤ sumℕ n f
 unfolding sumℕ
 sumℕ-term n i f h = omega (arith, sumℕ-mono (suc i) n f h)

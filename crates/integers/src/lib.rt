@@ -17,7 +17,8 @@ pub fn wrapping_mul(x: u64, y: u64) -> u64
     std::num::wrapping_add_u64(cross << 32, xl * yl)
 }
 
-// The distance of s from 0. The size of -2^63 is no signed word, so it is not taken in one: -1 - s never overflows below zero.
+// The distance of s from 0. The size of -2^63 is no signed word, so it is not taken in one: -1 - s never overflows
+// below zero.
 pub fn size(s: i64) -> u64
     ensures { λ r. ⌜ r ≡ natAbs s ⌝ }
 {

@@ -3,6 +3,7 @@ ghost use mathlib.Core.Path.{_≡_};
 ghost use Rattle.settings.specs.Rules.{firstOf};
 ghost use Rattle.settings.specs.Settings.{parametersOf};
 ghost use Rattle.lova.specs.Answers.{ends, answerOf};
+ghost use Rattle.lova.specs.Lent.{instanceBefore, instanceAfter};
 ghost use Rattle.lova.specs.Tests.{fitsJoined};
 ghost use Rattle.lova.specs.Calls.{Rebuilt};
 ghost use Rattle.lova.specs.Join.{joinRules, join};
@@ -15,7 +16,7 @@ use settings::Setting;
 // Whether t and d have the lengths of the joined T and D.
 fn joined_fits(setting: Setting, t: &[u64], d: &[i64]) -> bool
     requires { ⌜ Rebuilt setting ⌝ }
-    ensures { λ r. ⌜ r ≡ fitsJoined (parametersOf setting) (record { T = now (t .entry); D = now (d .entry) }) ⌝ }
+    ensures { λ r. ⌜ r ≡ fitsJoined (parametersOf setting) (instanceBefore t d) ⌝ }
 {
     let wide = 2 * setting.t;
     t.len() == setting.n * wide && d.len() == wide * wide
@@ -33,7 +34,9 @@ fn join_refusal(
     d: &[i64],
 ) -> u8
     requires { ⌜ Rebuilt setting ⌝ }
-    ensures { λ r. ⌜ r ≡ firstOf (joinRules (parametersOf setting) (record { T = now (t1 .entry); D = now (d1 .entry) }) (record { T = now (t2 .entry); D = now (d2 .entry) }) (now (v .entry)) (record { T = now (t .entry); D = now (d .entry) })) ⌝ }
+    ensures { λ r. ⌜ r
+        ≡ firstOf (joinRules (parametersOf setting) (instanceBefore t1 d1) (instanceBefore t2 d2)
+        (now (v .entry)) (instanceBefore t d)) ⌝ }
 {
     if !scans::instance_fits(setting, t1, d1) {
         return 7;
@@ -61,9 +64,11 @@ pub fn join(
     t: &mut [u64],
     d: &mut [i64],
 ) -> Answer
-    ensures { λ r. ⌜ ends (answerOf r) (record { T = now (t .exit); D = now (d .exit) }) ≡ join (parametersOf setting) (record { T = now (t1 .entry); D = now (d1 .entry) }) (record { T = now (t2 .entry); D = now (d2 .entry) }) (now (v .entry)) (record { T = now (t .entry); D = now (d .entry) }) ⌝ }
+    ensures { λ r. ⌜ ends (answerOf r) (instanceAfter t d)
+        ≡ join (parametersOf setting) (instanceBefore t1 d1) (instanceBefore t2 d2)
+        (now (v .entry)) (instanceBefore t d) ⌝ }
 {
-    let fresh = Setting::new(setting.n, setting.m, setting.t, setting.b, setting.bound);
+    let fresh = setting.rebuilt();
     let number = fresh.refusal;
     if number != 0 {
         return Answer::Refused(number);
@@ -74,6 +79,6 @@ pub fn join(
         return Answer::Refused(own);
     }
     joined::write_t(t1, t2, accepted.n, accepted.t, t);
-    joined::write_d(d1, v, d2, accepted.t, d);
+    joined::write_d(accepted, d1, v, d2, d);
     Answer::Done
 }

@@ -1,5 +1,6 @@
 pub mod Answers
 pub mod Stored
+pub mod Lent
 pub mod Calls
 pub mod Tests
 pub mod Fold

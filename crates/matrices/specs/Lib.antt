@@ -1,2 +1,3 @@
 pub mod Matrices
 pub mod Tables
+pub mod Elements

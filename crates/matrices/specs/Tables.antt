@@ -4,6 +4,7 @@ use Prim.Native.Nat.{ℕ, zero, suc, _+_, _*_, _/_, _%_}
 use lib.ListN.{getD}
 use lib.IntN.{ℤ, pos, negsuc}
 use Rattle.integers.specs.Lists.{build}
+use Rattle.integers.specs.Residues.{word}
 use Rattle.matrices.specs.Matrices.{Matrix}
 
 module _ {A : Type 0} where
@@ -25,6 +26,10 @@ unsigned = entries pos 0
 
 abbrev pub signed : ℕ → List ℤ → Matrix
 signed = entries (λ z. z) (pos 0)
+
+-- the list of a matrix modulo 2^64, in unsigned words
+abbrev pub residues : ℕ → ℕ → Matrix → List ℕ
+residues rows cols X = table rows cols (λ i j. word (X i j))
 
 -- a challenge's byte: 0 is 0, 1 is 1, 2 is −1 (a greater byte is refused before it is read)
 unfoldable pub ternary : ℕ → ℤ

@@ -1,7 +1,8 @@
 -- Message: what its products ask of a proper call, and what they leave together.
 use mathlib.Core.Path.{_≡_, refl, _∙_, ap}
 use mathlib.Core.List.{List}
-use Prim.Native.Nat.{ℕ, _*_, _^_, _<_, _≤_}
+use Prim.Native.Nat.{ℕ, _+_, _*_, _^_, _<_, _≤_}
+use native.Mathlib.Omega.{arith}
 use native.Mathlib.Nat.{le-trans}
 use lib.IntN.{ℤ, pos}
 use lib.ListN.{length}
@@ -11,8 +12,9 @@ use Rattle.matrices.specs.Tables.{table, signed, unsigned}
 use Rattle.matrices.proofs.Matrices.{product-cong}
 use Rattle.matrices.proofs.Tables.{length-table, entry-table, table-cong}
 use Rattle.settings.specs.declared.Setting.{Setting}
-use Rattle.settings.specs.Settings.{Parameters, NOf, hOf, parametersOf}
-use Rattle.small_rows.specs.Small.{SmallMatrix}
+use Rattle.settings.specs.Settings.{Parameters, kOf, NOf, hOf, parametersOf}
+use Rattle.small_rows.specs.Small.{Within, SmallMatrix, SmallBlocks}
+use Rattle.small_rows.proofs.Small.{small-blocks}
 use Rattle.lova.specs.Stored.{Prepared}
 use Rattle.lova.specs.Calls.{Rebuilt, ProperMessage}
 use Rattle.lova.specs.Fold.{besideS, digitWitness}
@@ -21,6 +23,7 @@ use Rattle.lova.proofs.Gadget.{digit-size}
 use Rattle.lova.proofs.NeverWraps.{columns-fit}
 use Rattle.lova.proofs.Tests.{bounded-everywhere}
 use Rattle.lova.proofs.Rebuilding.{rebuilt-accepted, N-is, N-high}
+use Rattle.digit_witnesses.proofs.DigitRows.{both-wide}
 
 -- the products with a digit witness as it is stored are those with the witness itself
 module _ (p : Parameters) (X : Matrix) (S~ : List ℤ) (is : S~ ≡ table (p .m) (NOf p) X) where
@@ -47,11 +50,15 @@ module _ (s : Setting) (whole : Rebuilt s) (A : List ℕ) (S₁ S₂ : List ℤ)
   pub cross-sizes : (i j : ℕ) → i < s .t → j < s .t → sizes (s .m) (transposed (signed (s .t) S₁)) (signed (s .t) S₂) i j ≤ 2 ^ 62
   cross-sizes = columns-fit q (rebuilt-accepted s whole) S₁ S₂ (proper .columns .0) (proper .columns .1)
 
-  pub witness-lengths : (length S₁ ≡ s .m * s .t) × (length S₂ ≡ s .m * s .t) × (length (out .S~) ≡ s .m * NOf q)
-  witness-lengths = let l = proper .lengths in (l .1, l .2, l .3 .1)
+  pub witness-lengths : (length S₁ ≡ s .m * s .t) × (length S₂ ≡ s .m * s .t)
+      × (length (out .S~) ≡ s .m * ((s .t + s .t) * kOf q))
+  witness-lengths = let l = proper .lengths in (l .1, l .2, rw (both-wide q) (l .3 .1))
 
   -- with the digit witness written
-  module _ (S~ : List ℤ) (written : S~ ≡ table (s .m) (NOf q) X) where
+  module _ (S~ : List ℤ) (made : S~ ≡ table (s .m) ((s .t + s .t) * kOf q) X) where
+    written : S~ ≡ table (s .m) (NOf q) X
+    written = made ∙ ap (λ (N : ℕ). table (s .m) N X) (both-wide q)
+
     long : length S~ ≡ s .m * NOf q
     long = ap length written ∙ length-table (s .m) (NOf q) X
 
@@ -61,16 +68,15 @@ module _ (s : Setting) (whole : Rebuilt s) (A : List ℕ) (S₁ S₂ : List ℤ)
         let n = N-is s whole in
         (l .0, rw n long, rw n (l .3 .0 .1))
 
-    pub gram-asks : SmallMatrix (s .m) (s .columns) S~ × (s .m ≤ 4096) × (length (out .message .D~) ≡ s .columns * s .columns)
+    small : Within 1024 S~
+    small i = le-trans (bounded-everywhere (s .m) (NOf q) (hOf q) S~ long (λ i j hi hj. rw (written, entry-table (pos 0) (s .m) (NOf q) X i j hi hj) (digit-size q (besideS q S₁ S₂) i j (rebuilt-accepted s whole .b-low))) i) (rebuilt-accepted s whole .digits-small)
+
+    pub gram-asks : SmallMatrix 32767 (s .m) (s .columns) S~ × SmallBlocks (s .columns) S~ × (s .m ≤ 4096) × (length (out .message .D~) ≡ s .columns * s .columns)
     gram-asks =
-        let n = N-is s whole in
-        let acc = rebuilt-accepted s whole in (
-          record {
-            long = rw n long;
-            few = N-high s whole;
-            small = λ i. le-trans (bounded-everywhere (s .m) (NOf q) (hOf q) S~ long (λ i j hi hj. rw (written, entry-table (pos 0) (s .m) (NOf q) X i j hi hj) (digit-size q (besideS q S₁ S₂) i j (acc .b-low))) i) (acc .digits-small);
-          },
-          acc .m-high,
+        let n = N-is s whole in (
+          record { long = rw n long; few = N-high s whole; small = λ i. omega (arith, small i) },
+          small-blocks 1024 (s .columns) S~ (omega arith) small,
+          rebuilt-accepted s whole .m-high,
           rw n (proper .lengths .3 .0 .2),
         )
 

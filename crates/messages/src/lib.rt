@@ -5,6 +5,7 @@ ghost use Rattle.settings.specs.Rules.{firstOf};
 ghost use Rattle.settings.specs.Settings.{parametersOf};
 ghost use Rattle.lova.specs.Answers.{ends, answerOf};
 ghost use Rattle.lova.specs.Stored.{matrixA, matrixS};
+ghost use Rattle.lova.specs.Lent.{preparedBefore, preparedAfter};
 ghost use Rattle.lova.specs.Tests.{fits, fitsPrepared};
 ghost use Rattle.lova.specs.Calls.{Rebuilt};
 ghost use Rattle.lova.specs.Message.{messageRules, message};
@@ -23,7 +24,11 @@ fn message_lengths(
     ss: &[i64],
 ) -> bool
     requires { ⌜ Rebuilt setting ⌝ }
-    ensures { λ r. ⌜ r ≡ (fits (matrixA (parametersOf setting)) (now (a .entry)) && fits (matrixS (parametersOf setting)) (now (s1 .entry)) && fits (matrixS (parametersOf setting)) (now (s2 .entry)) && fitsPrepared (parametersOf setting) (record { message = record { «V» = now (v .entry); T~ = now (tt .entry); D~ = now (dd .entry) }; S~ = now (ss .entry) })) ⌝ }
+    ensures { λ r. ⌜ r
+        ≡ (fits (matrixA (parametersOf setting)) (now (a .entry))
+        && fits (matrixS (parametersOf setting)) (now (s1 .entry))
+        && fits (matrixS (parametersOf setting)) (now (s2 .entry))
+        && fitsPrepared (parametersOf setting) (preparedBefore v tt dd ss)) ⌝ }
 {
     let size = setting.m * setting.t;
     let inputs = scans::both(
@@ -49,7 +54,9 @@ fn message_refusal(
     ss: &[i64],
 ) -> u8
     requires { ⌜ Rebuilt setting ⌝ }
-    ensures { λ r. ⌜ r ≡ firstOf (messageRules (parametersOf setting) (now (a .entry)) (now (s1 .entry)) (now (s2 .entry)) (record { message = record { «V» = now (v .entry); T~ = now (tt .entry); D~ = now (dd .entry) }; S~ = now (ss .entry) })) ⌝ }
+    ensures { λ r. ⌜ r
+        ≡ firstOf (messageRules (parametersOf setting) (now (a .entry)) (now (s1 .entry)) (now (s2 .entry))
+        (preparedBefore v tt dd ss)) ⌝ }
 {
     if !message_lengths(setting, a, s1, s2, v, tt, dd, ss) {
         return 7;
@@ -74,9 +81,11 @@ pub fn message(
     dd: &mut [i64],
     ss: &mut [i64],
 ) -> Answer
-    ensures { λ r. ⌜ ends (answerOf r) (record { message = record { «V» = now (v .exit); T~ = now (tt .exit); D~ = now (dd .exit) }; S~ = now (ss .exit) }) ≡ message (parametersOf setting) (now (a .entry)) (now (s1 .entry)) (now (s2 .entry)) (record { message = record { «V» = now (v .entry); T~ = now (tt .entry); D~ = now (dd .entry) }; S~ = now (ss .entry) }) ⌝ }
+    ensures { λ r. ⌜ ends (answerOf r) (preparedAfter v tt dd ss)
+        ≡ message (parametersOf setting) (now (a .entry)) (now (s1 .entry)) (now (s2 .entry))
+        (preparedBefore v tt dd ss) ⌝ }
 {
-    let fresh = Setting::new(setting.n, setting.m, setting.t, setting.b, setting.bound);
+    let fresh = setting.rebuilt();
     let number = fresh.refusal;
     if number != 0 {
         return Answer::Refused(number);
@@ -86,8 +95,8 @@ pub fn message(
     if own != 0 {
         return Answer::Refused(own);
     }
-    cross_products::cross_products(s1, s2, accepted.m, accepted.t, v);
-    digit_witnesses::write_witness(accepted, s1, s2, ss);
+    cross_products::cross_products(s1, s2, accepted.m, accepted.t, accepted.t, v);
+    digit_witnesses::write_witness(accepted, accepted.t, s1, s2, ss);
     word_products::commitment(a, ss, accepted.n, accepted.m, accepted.columns, tt);
     small_gram::small_gram(ss, accepted.m, accepted.columns, dd);
     Answer::Done

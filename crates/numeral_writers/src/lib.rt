@@ -8,7 +8,8 @@ ghost use Rattle.numerals.specs.Numerals.{decimal, decimalZ};
 // Writes n's numeral from `at` on, and answers the place past it.
 pub fn put_u64(buf: &mut [u8], at: usize, n: u64) -> usize
     requires { ⌜ at + length (decimal n) ≤ length (now buf) ⌝ }
-    ensures { λ r. ⌜ (r ≡ at + length (decimal n)) × (now (buf .exit) ≡ written (now (buf .entry)) at (decimal n)) ⌝ }
+    ensures { λ r. ⌜ (r ≡ at + length (decimal n))
+        × (now (buf .exit) ≡ written (now (buf .entry)) at (decimal n)) ⌝ }
 {
     if n < 10 {
         buf[at] = 48 + (n % 10) as u8;
@@ -22,7 +23,8 @@ pub fn put_u64(buf: &mut [u8], at: usize, n: u64) -> usize
 // Writes n's numeral from `at` on, and answers the place past it.
 pub fn put_i64(buf: &mut [u8], at: usize, n: i64) -> usize
     requires { ⌜ at + length (decimalZ n) ≤ length (now buf) ⌝ }
-    ensures { λ r. ⌜ (r ≡ at + length (decimalZ n)) × (now (buf .exit) ≡ written (now (buf .entry)) at (decimalZ n)) ⌝ }
+    ensures { λ r. ⌜ (r ≡ at + length (decimalZ n))
+        × (now (buf .exit) ≡ written (now (buf .entry)) at (decimalZ n)) ⌝ }
 {
     let w = integers::size(n);
     if n < 0 {

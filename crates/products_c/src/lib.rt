@@ -1,12 +1,13 @@
-// The four costly products as C functions, so that the speed table can time each of them alone, and the wrapping product,
-// whose machine code the gate looks at. A caller from C owes what the `requires` say; `lova_c` is the library to use.
+// The four costly products as C functions, so that the speed table can time each of them alone, and the wrapping
+// product and T', whose machine code the gate looks at. A caller from C owes what the `requires` say; `include/lova.h`
+// has the functions to use.
 ghost use mathlib.Core.Path.{_≡_};
 ghost use Prim.Native.Nat.{_*_, _%_, _^_, _≤_};
 ghost use lib.ListN.{length};
-ghost use Rattle.integers.specs.Residues.{word};
 ghost use Rattle.matrices.specs.Matrices.{product, gram, bothSides};
-ghost use Rattle.matrices.specs.Tables.{table, signed, unsigned, challenge};
-ghost use Rattle.small_rows.specs.Small.{Within, SmallMatrix};
+ghost use Rattle.matrices.specs.Tables.{table, residues, signed, unsigned, challenge};
+ghost use Rattle.small_rows.specs.Small.{Within, SmallMatrix, SmallBlocks};
+ghost use Rattle.small_rows.specs.Columns.{byColumns};
 
 // x * y modulo 2^64.
 #[no_mangle]
@@ -19,8 +20,10 @@ pub extern "C" fn product_word(x: u64, y: u64) -> u64
 // D~: the Gram matrix of s, an m by `cols` matrix.
 #[no_mangle]
 pub extern "C" fn product_dd(s: &[i64], m: usize, cols: usize, out: &mut [i64])
-    requires { ⌜ SmallMatrix m cols (now s) × (m ≤ 4096) × (length (now out) ≡ cols * cols) ⌝ }
-    ensures { λ _. ⌜ now (out .exit) ≡ table cols cols (gram m (signed cols (now (s .entry)))) ⌝ }
+    requires { ⌜ SmallMatrix 32767 m cols (now s) × SmallBlocks cols (now s) × (m ≤ 4096)
+        × (length (now out) ≡ cols * cols) ⌝ }
+    ensures { λ _. ⌜ now (out .exit)
+        ≡ table cols cols (gram m (signed cols (now (s .entry)))) ⌝ }
 {
     small_gram::small_gram(s, m, cols, out);
 }
@@ -29,25 +32,44 @@ pub extern "C" fn product_dd(s: &[i64], m: usize, cols: usize, out: &mut [i64])
 #[no_mangle]
 pub extern "C" fn product_tt(a: &[u64], s: &[i64], n: usize, m: usize, cols: usize, out: &mut [u64])
     requires { ⌜ (length (now a) ≡ n * m) × (length (now s) ≡ m * cols) × (length (now out) ≡ n * cols) ⌝ }
-    ensures { λ _. ⌜ now (out .exit) ≡ table n cols (λ i j. word (product m (unsigned m (now (a .entry))) (signed cols (now (s .entry))) i j)) ⌝ }
+    ensures { λ _. ⌜ now (out .exit)
+        ≡ residues n cols (product m (unsigned m (now (a .entry))) (signed cols (now (s .entry)))) ⌝ }
 {
     word_products::commitment(a, s, n, m, cols, out);
 }
 
-// D': c transposed times d times c, for a challenge c, n by t.
+// T': x, n by `cols`, times a decoded challenge q, `cols` by t, modulo 2^64. It is not timed: the gate looks at its
+// loop.
+#[no_mangle]
+pub extern "C" fn product_t(x: &[u64], q: &[i16], n: usize, cols: usize, t: usize, out: &mut [u64])
+    requires { ⌜ (length (now x) ≡ n * cols) × (cols ≤ 512) × (t * 512 ≤ length (now q))
+        × (length (now out) ≡ n * t) ⌝ }
+    ensures { λ _. ⌜ now (out .exit)
+        ≡ residues n t (product cols (unsigned cols (now (x .entry))) (byColumns (now (q .entry)))) ⌝ }
+{
+    word_folds::fold_commitment(x, q, n, cols, t, out);
+}
+
+// D': c transposed times d times c, for a challenge c, n by t. T' beside it is that of no rows.
 #[no_mangle]
 pub extern "C" fn product_d(d: &[i64], c: &[u8], n: usize, t: usize, out: &mut [i64])
-    requires { ⌜ (length (now d) ≡ n * n) × Within (2 ^ 31) (now d) × (n ≤ 512) × (length (now c) ≡ n * t) × (length (now out) ≡ t * t) ⌝ }
-    ensures { λ _. ⌜ now (out .exit) ≡ table t t (bothSides n (challenge t (now (c .entry))) (signed n (now (d .entry)))) ⌝ }
+    requires { ⌜ (length (now d) ≡ n * n) × Within (2 ^ 31) (now d) × (n ≤ 512) × (t ≤ 16)
+        × (length (now c) ≡ n * t) × (length (now out) ≡ t * t) ⌝ }
+    ensures { λ _. ⌜ now (out .exit)
+        ≡ table t t (bothSides n (challenge t (now (c .entry))) (signed n (now (d .entry)))) ⌝ }
 {
-    fold_gram::fold_gram(d, c, n, t, out);
+    let tt = [0u64; 0];
+    let mut none = [0u64; 0];
+    challenge_folds::fold_instance(&tt, d, c, 0, n, t, &mut none, out);
 }
 
 // S': s, m by n, times a challenge c, n by t.
 #[no_mangle]
 pub extern "C" fn product_s(s: &[i64], c: &[u8], m: usize, n: usize, t: usize, out: &mut [i64])
-    requires { ⌜ SmallMatrix m n (now s) × (t ≤ 16) × (length (now c) ≡ n * t) × (length (now out) ≡ m * t) ⌝ }
-    ensures { λ _. ⌜ now (out .exit) ≡ table m t (product n (signed n (now (s .entry))) (challenge t (now (c .entry)))) ⌝ }
+    requires { ⌜ SmallMatrix 32767 m n (now s) × (t ≤ 16) × (length (now c) ≡ n * t)
+        × (length (now out) ≡ m * t) ⌝ }
+    ensures { λ _. ⌜ now (out .exit)
+        ≡ table m t (product n (signed n (now (s .entry))) (challenge t (now (c .entry)))) ⌝ }
 {
-    small_fold::small_fold(s, c, m, n, t, out);
+    challenge_folds::fold_digits(s, c, m, n, t, out);
 }

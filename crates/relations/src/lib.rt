@@ -1,16 +1,17 @@
 // The relation test: whether T, D and S are in the paper's relation (1) with A.
 ghost use mathlib.Core.Path.{_≡_};
 ghost use mathlib.Core.Bool.{_&&_};
-ghost use Prim.Native.Nat.{ℕ, _*_, _^_, _<_, _≤_};
+ghost use Prim.Native.Nat.{_*_, _<_, _≤_};
 ghost use lib.ListN.{length};
-ghost use Rattle.matrices.specs.Matrices.{product, gram, squaredLength};
+ghost use Rattle.matrices.specs.Matrices.{product, gram};
 ghost use Rattle.matrices.specs.Tables.{unsigned, signed};
 ghost use Rattle.settings.specs.Rules.{firstOf};
 ghost use Rattle.settings.specs.Settings.{parametersOf};
 ghost use Rattle.lova.specs.Answers.{membershipOf};
-ghost use Rattle.lova.specs.Stored.{matrixA, matrixS};
+ghost use Rattle.lova.specs.Stored.{matrixA, matrixS, matrixD};
+ghost use Rattle.lova.specs.Lent.{instanceBefore};
 ghost use Rattle.lova.specs.Tests.{equal, equalWords, fits, fitsInstance};
-ghost use Rattle.lova.specs.Calls.{Rebuilt};
+ghost use Rattle.lova.specs.Calls.{Rebuilt, Fits, Short};
 ghost use Rattle.lova.specs.Relation.{relationRules, relation};
 use lova::Membership;
 use settings::Setting;
@@ -18,7 +19,10 @@ use settings::Setting;
 // Whether the slices have the lengths of their matrices.
 fn relation_lengths(setting: Setting, a: &[u64], t: &[u64], d: &[i64], s: &[i64]) -> bool
     requires { ⌜ Rebuilt setting ⌝ }
-    ensures { λ r. ⌜ r ≡ (fits (matrixA (parametersOf setting)) (now (a .entry)) && fitsInstance (parametersOf setting) (record { T = now (t .entry); D = now (d .entry) }) && fits (matrixS (parametersOf setting)) (now (s .entry))) ⌝ }
+    ensures { λ r. ⌜ r
+        ≡ (fits (matrixA (parametersOf setting)) (now (a .entry))
+        && fitsInstance (parametersOf setting) (instanceBefore t d)
+        && fits (matrixS (parametersOf setting)) (now (s .entry))) ⌝ }
 {
     a.len() == setting.n * setting.m
         && scans::instance_fits(setting, t, d)
@@ -28,7 +32,8 @@ fn relation_lengths(setting: Setting, a: &[u64], t: &[u64], d: &[i64], s: &[i64]
 // 7 where they have not, else 0.
 fn relation_refusal(setting: Setting, a: &[u64], t: &[u64], d: &[i64], s: &[i64]) -> u8
     requires { ⌜ Rebuilt setting ⌝ }
-    ensures { λ r. ⌜ r ≡ firstOf (relationRules (parametersOf setting) (now (a .entry)) (record { T = now (t .entry); D = now (d .entry) }) (now (s .entry))) ⌝ }
+    ensures { λ r. ⌜ r
+        ≡ firstOf (relationRules (parametersOf setting) (now (a .entry)) (instanceBefore t d) (now (s .entry))) ⌝ }
 {
     if !relation_lengths(setting, a, t, d, s) {
         return 7;
@@ -57,23 +62,45 @@ fn products_equal(x: &[i64], y: &[i64], cols: usize) -> bool
     equal
 }
 
-// Whether s-transposed s is d, for an s with short columns. It is made as a whole, since by rows of s it costs less than
-// entry by entry.
-fn products_hold(d: &[i64], s: &[i64], m: usize, cols: usize) -> bool
-    requires { ⌜ (length (now d) ≡ cols * cols) × (length (now s) ≡ m * cols) × (cols ≤ 16) ⌝ }
-    requires { ⌜ ((j : ℕ) → j < cols → squaredLength m (signed cols (now s)) j ≤ 2 ^ 62) ⌝ }
-    ensures { λ r. ⌜ r ≡ equal cols cols (gram m (signed cols (now (s .entry)))) (signed cols (now (d .entry))) ⌝ }
+// Whether s-transposed s is d, for an s with short columns. It is made in `own` as a whole, since by rows of s it costs
+// less than entry by entry.
+fn products_hold_in(setting: Setting, d: &[i64], s: &[i64], own: &mut [i64]) -> bool
+    requires { ⌜ Rebuilt setting × Fits (matrixD (parametersOf setting)) (now d)
+        × Fits (matrixS (parametersOf setting)) (now s) × Short (parametersOf setting) (now s)
+        × Fits (matrixD (parametersOf setting)) (now own) ⌝ }
+    ensures { λ r. ⌜ r
+        ≡ equal (setting .t) (setting .t) (gram (setting .m) (matrixS (parametersOf setting) .read (now (s .entry))))
+        (matrixD (parametersOf setting) .read (now (d .entry))) ⌝ }
 {
-    let mut own = [0i64; 256];
+    let cols = setting.t;
+    cross_products::cross_products(s, s, setting.m, cols, cols, own);
+    products_equal(own, d, cols)
+}
+
+// The same with an array of its own: a small one for few columns, since a local array is cleared at each call.
+fn products_hold(setting: Setting, d: &[i64], s: &[i64]) -> bool
+    requires { ⌜ Rebuilt setting × Fits (matrixD (parametersOf setting)) (now d)
+        × Fits (matrixS (parametersOf setting)) (now s) × Short (parametersOf setting) (now s) ⌝ }
+    ensures { λ r. ⌜ r
+        ≡ equal (setting .t) (setting .t) (gram (setting .m) (matrixS (parametersOf setting) .read (now (s .entry))))
+        (matrixD (parametersOf setting) .read (now (d .entry))) ⌝ }
+{
+    let cols = setting.t;
     let size = cols * cols;
-    cross_products::cross_products(s, s, m, cols, &mut own[..size]);
-    products_equal(&own[..size], d, cols)
+    if size <= 16 {
+        let mut own = [0i64; 16];
+        products_hold_in(setting, d, s, &mut own[..size])
+    } else {
+        let mut own = [0i64; 256];
+        products_hold_in(setting, d, s, &mut own[..size])
+    }
 }
 
 // Whether x and y, both `rows` by `cols`, are equal: compared by rows, up to the first unequal entry.
 fn words_equal(x: &[u64], y: &[u64], rows: usize, cols: usize) -> bool
     requires { ⌜ (length (now x) ≡ rows * cols) × (length (now y) ≡ rows * cols) ⌝ }
-    ensures { λ r. ⌜ r ≡ equalWords rows cols (unsigned cols (now (x .entry))) (unsigned cols (now (y .entry))) ⌝ }
+    ensures { λ r. ⌜ r
+        ≡ equalWords rows cols (unsigned cols (now (x .entry))) (unsigned cols (now (y .entry))) ⌝ }
 {
     let mut congruent = true;
     let mut i: usize = 0;
@@ -91,22 +118,50 @@ fn words_equal(x: &[u64], y: &[u64], rows: usize, cols: usize) -> bool
     congruent
 }
 
-// Whether a s is t modulo 2^64.
-fn commitment_holds(a: &[u64], t: &[u64], s: &[i64], rows: usize, m: usize, cols: usize) -> bool
-    requires { ⌜ (length (now a) ≡ rows * m) × (length (now t) ≡ rows * cols) × (length (now s) ≡ m * cols) × (rows ≤ 64) × (cols ≤ 16) ⌝ }
-    ensures { λ r. ⌜ r ≡ equalWords rows cols (product m (unsigned m (now (a .entry))) (signed cols (now (s .entry)))) (unsigned cols (now (t .entry))) ⌝ }
+// Whether a s, made in `own`, is t modulo 2^64.
+fn commitment_holds_in(
+    a: &[u64],
+    t: &[u64],
+    s: &[i64],
+    rows: usize,
+    m: usize,
+    cols: usize,
+    own: &mut [u64],
+) -> bool
+    requires { ⌜ (length (now a) ≡ rows * m) × (length (now t) ≡ rows * cols) × (length (now s) ≡ m * cols)
+        × (length (now own) ≡ rows * cols) ⌝ }
+    ensures { λ r. ⌜ r
+        ≡ equalWords rows cols (product m (unsigned m (now (a .entry))) (signed cols (now (s .entry))))
+        (unsigned cols (now (t .entry))) ⌝ }
 {
-    let mut own = [0u64; 1024];
+    word_products::commitment(a, s, rows, m, cols, own);
+    words_equal(own, t, rows, cols)
+}
+
+// The same with an array of its own: a small one for few entries, as above.
+fn commitment_holds(a: &[u64], t: &[u64], s: &[i64], rows: usize, m: usize, cols: usize) -> bool
+    requires { ⌜ (length (now a) ≡ rows * m) × (length (now t) ≡ rows * cols) × (length (now s) ≡ m * cols)
+        × (rows ≤ 64) × (cols ≤ 16) ⌝ }
+    ensures { λ r. ⌜ r
+        ≡ equalWords rows cols (product m (unsigned m (now (a .entry))) (signed cols (now (s .entry))))
+        (unsigned cols (now (t .entry))) ⌝ }
+{
     let size = rows * cols;
-    word_products::commitment(a, s, rows, m, cols, &mut own[..size]);
-    words_equal(&own[..size], t, rows, cols)
+    if size <= 64 {
+        let mut own = [0u64; 64];
+        commitment_holds_in(a, t, s, rows, m, cols, &mut own[..size])
+    } else {
+        let mut own = [0u64; 1024];
+        commitment_holds_in(a, t, s, rows, m, cols, &mut own[..size])
+    }
 }
 
 // Whether t, d and s are in the paper's relation (1) with a.
 pub fn test_relation(setting: Setting, a: &[u64], t: &[u64], d: &[i64], s: &[i64]) -> Membership
-    ensures { λ r. ⌜ membershipOf r ≡ (relation (parametersOf setting) (now (a .entry)) (record { T = now (t .entry); D = now (d .entry) }) (now (s .entry))) .answer ⌝ }
+    ensures { λ r. ⌜ membershipOf r
+        ≡ (relation (parametersOf setting) (now (a .entry)) (instanceBefore t d) (now (s .entry))) .answer ⌝ }
 {
-    let fresh = Setting::new(setting.n, setting.m, setting.t, setting.b, setting.bound);
+    let fresh = setting.rebuilt();
     let number = fresh.refusal;
     if number != 0 {
         return Membership::Refused(number);
@@ -119,7 +174,7 @@ pub fn test_relation(setting: Setting, a: &[u64], t: &[u64], d: &[i64], s: &[i64
     if !scans::columns_within(s, accepted.m, accepted.t, accepted.bound) {
         return Membership::Long;
     }
-    if !products_hold(d, s, accepted.m, accepted.t) {
+    if !products_hold(accepted, d, s) {
         return Membership::Products;
     }
     if !commitment_holds(a, t, s, accepted.n, accepted.m, accepted.t) {

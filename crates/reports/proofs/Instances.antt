@@ -10,7 +10,7 @@ use Rattle.numerals.specs.Numerals.{decimal, decimalZ}
 use Rattle.numerals.proofs.Buffers.{written-twice, written-more}
 use Rattle.text.specs.Lines.{tabbed}
 use Rattle.text.proofs.Lines.{tabbed-append}
-use Rattle.chain.specs.Reports.{instanceFields}
+use Rattle.chain.specs.Reports.{instanceText}
 
 -- T, D and a line feed
 module _ (T : List ℕ) (D : List ℤ) (d d₁ d₂ : List ℕ) (at r₁ r₂ : ℕ) where
@@ -21,8 +21,7 @@ module _ (T : List ℕ) (D : List ℤ) (d d₁ d₂ : List ℕ) (at r₁ r₂ : 
   fD = tabbed (map decimalZ D)
 
   pub instance-put : at + length fT + length fD < length d → (r₁ ≡ at + length fT) → (d₁ ≡ written d at fT) → (r₂ ≡ r₁ + length fD) → (d₂ ≡ written d₁ r₁ fD)
-      → (r₂ + 1 ≡ at + length (tabbed (instanceFields (record { T = T; D = D })) ++ (10 ∷ [])))
-      × (set d₂ r₂ 10 ≡ written d at (tabbed (instanceFields (record { T = T; D = D })) ++ (10 ∷ [])))
+      → (r₂ + 1 ≡ at + length (instanceText T D)) × (set d₂ r₂ 10 ≡ written d at (instanceText T D))
   instance-put h p q r s =
       let both : tabbed (map decimal T ++ map decimalZ D) ≡ fT ++ fD = tabbed-append (map decimal T) (map decimalZ D) in
       let long : length (fT ++ fD) ≡ length fT + length fD = length-append fT fD in

@@ -1,12 +1,12 @@
 // The lines that the chain program prints for a leaf and a fold, each written to the start of a buffer.
 ghost use mathlib.Core.Path.{_≡_};
-ghost use mathlib.Core.List.{[], _∷_, _++_};
+ghost use mathlib.Core.List.{[], _∷_};
 ghost use Prim.Native.Nat.{_+_, _*_, _≤_};
 ghost use lib.ListN.{length, take};
 ghost use Rattle.numerals.specs.Bytes.{written};
 ghost use Rattle.text.specs.Lines.{tabbed};
 ghost use Rattle.lova.specs.Answers.{verdictOf};
-ghost use Rattle.chain.specs.Reports.{instanceFields, wordOf, leafLine, foldLine};
+ghost use Rattle.chain.specs.Reports.{instanceText, wordOf, leafText, foldText};
 
 mod lists;
 
@@ -15,7 +15,10 @@ use lova::Verdict;
 // The numbers of t and d, a tab before each, from `at` on, and a line feed; answers the place past it.
 fn put_instance(out: &mut [u8], at: usize, t: &[u64], d: &[i64]) -> usize
     requires { ⌜ at + 21 * length (now t) + 21 * length (now d) + 1 ≤ length (now out) ⌝ }
-    ensures { λ r. ⌜ (r ≡ at + length (tabbed (instanceFields (record { T = now (t .entry); D = now (d .entry) })) ++ (10 ∷ []))) × (now (out .exit) ≡ written (now (out .entry)) at (tabbed (instanceFields (record { T = now (t .entry); D = now (d .entry) })) ++ (10 ∷ []))) × (r ≤ at + 21 * length (now (t .entry)) + 21 * length (now (d .entry)) + 1) ⌝ }
+    ensures { λ r. ⌜
+        (r ≡ at + length (instanceText (now (t .entry)) (now (d .entry))))
+        × (now (out .exit) ≡ written (now (out .entry)) at (instanceText (now (t .entry)) (now (d .entry))))
+        × (r ≤ at + 21 * length (now (t .entry)) + 21 * length (now (d .entry)) + 1) ⌝ }
 {
     let after_t = field_writers::put_u64s(out, at, t);
     let after_d = lists::put_i64s(out, after_t, d);
@@ -26,7 +29,10 @@ fn put_instance(out: &mut [u8], at: usize, t: &[u64], d: &[i64]) -> usize
 // A tab and the word of a verdict, from `at` on; answers the place past it.
 fn put_verdict(out: &mut [u8], at: usize, verdict: Verdict) -> usize
     requires { ⌜ at + 16 ≤ length (now out) ⌝ }
-    ensures { λ r. ⌜ (r ≡ at + length (tabbed (wordOf (verdictOf verdict) ∷ []))) × (now (out .exit) ≡ written (now (out .entry)) at (tabbed (wordOf (verdictOf verdict) ∷ []))) × (r ≤ at + 16) ⌝ }
+    ensures { λ r. ⌜
+        (r ≡ at + length (tabbed (wordOf (verdictOf verdict) ∷ [])))
+        × (now (out .exit) ≡ written (now (out .entry)) at (tabbed (wordOf (verdictOf verdict) ∷ [])))
+        × (r ≤ at + 16) ⌝ }
 {
     match verdict {
         Verdict::Yes => field_writers::put_bytes(out, at, b"\tyes"),
@@ -39,7 +45,9 @@ fn put_verdict(out: &mut [u8], at: usize, verdict: Verdict) -> usize
 // Writes the line of leaf `number` with its instance, and answers the line's length.
 pub fn put_leaf(out: &mut [u8], number: u64, t: &[u64], d: &[i64]) -> usize
     requires { ⌜ 64 + 21 * length (now t) + 21 * length (now d) ≤ length (now out) ⌝ }
-    ensures { λ r. ⌜ (r ≤ length (now (out .exit))) × (take r (now (out .exit)) ≡ leafLine number (record { T = now (t .entry); D = now (d .entry) })) ⌝ }
+    ensures { λ r. ⌜
+        (r ≤ length (now (out .exit)))
+        × (take r (now (out .exit)) ≡ leafText number (now (t .entry)) (now (d .entry))) ⌝ }
 {
     let word = field_writers::put_bytes(out, 0, b"leaf");
     let at = field_writers::put_number(out, word, number);
@@ -49,7 +57,9 @@ pub fn put_leaf(out: &mut [u8], number: u64, t: &[u64], d: &[i64]) -> usize
 // Writes the line of fold `number` with its verdict and folded instance, and answers the line's length.
 pub fn put_fold(out: &mut [u8], number: u64, verdict: Verdict, t: &[u64], d: &[i64]) -> usize
     requires { ⌜ 64 + 21 * length (now t) + 21 * length (now d) ≤ length (now out) ⌝ }
-    ensures { λ r. ⌜ (r ≤ length (now (out .exit))) × (take r (now (out .exit)) ≡ foldLine number (verdictOf verdict) (record { T = now (t .entry); D = now (d .entry) })) ⌝ }
+    ensures { λ r. ⌜
+        (r ≤ length (now (out .exit)))
+        × (take r (now (out .exit)) ≡ foldText number (verdictOf verdict) (now (t .entry)) (now (d .entry))) ⌝ }
 {
     let word = field_writers::put_bytes(out, 0, b"fold");
     let after_number = field_writers::put_number(out, word, number);

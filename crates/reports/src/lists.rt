@@ -10,7 +10,10 @@ ghost use Rattle.text.specs.Lines.{tabbed};
 // As `field_writers::put_u64s`, for signed numbers.
 pub(crate) fn put_i64s(buf: &mut [u8], at: usize, vs: &[i64]) -> usize
     requires { ⌜ at + 21 * length (now vs) ≤ length (now buf) ⌝ }
-    ensures { λ r. ⌜ (r ≡ at + length (tabbed (map decimalZ (now (vs .entry))))) × (now (buf .exit) ≡ written (now (buf .entry)) at (tabbed (map decimalZ (now (vs .entry))))) × (r ≤ at + 21 * length (now (vs .entry))) ⌝ }
+    ensures { λ r. ⌜
+        (r ≡ at + length (tabbed (map decimalZ (now (vs .entry)))))
+        × (now (buf .exit) ≡ written (now (buf .entry)) at (tabbed (map decimalZ (now (vs .entry)))))
+        × (r ≤ at + 21 * length (now (vs .entry))) ⌝ }
 {
     let mut to = at;
     let mut i: usize = 0;

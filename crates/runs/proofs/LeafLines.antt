@@ -2,41 +2,30 @@
 use mathlib.Core.Path.{_≡_, refl, sym, _∙_, ap}
 use mathlib.Core.Logic.{inl, inr}
 use mathlib.Core.Bool.{false}
-use mathlib.Core.List.{List, []}
+use mathlib.Core.List.{List}
 use mathlib.Core.Option.{Option, some, none}
 use Prim.Native.Nat.{ℕ, _+_}
 use lib.IntN.{ℤ}
-use lib.ListN.{take}
-use Rattle.settings.specs.Settings.{Parameters}
+use Rattle.settings.specs.Settings.{Parameters, parametersOf}
 use Rattle.settings.specs.declared.Setting.{Setting}
+use Rattle.text.specs.Fields.{recordOf, readI64}
 use Rattle.lova.specs.Answers.{Meaning, refused, ends}
-use Rattle.chain.specs.Nodes.{Node, refuses, leafOf}
-use Rattle.chain.specs.Reports.{leafLine}
-use Rattle.chain.specs.Chain.{Stage, stopped, Counts, counted, Step, step, refuse, onLeaf, numberOf}
+use Rattle.lova.specs.Stored.{matrixS, matrixD}
+use Rattle.lova.specs.Calls.{Fits}
+use Rattle.chain.specs.Nodes.{Node, refusal, refuses, leafOf}
+use Rattle.chain.specs.Reports.{leafWord, leafText, leafLine}
+use Rattle.chain.specs.Chain.{Stage, leaf, challenge, Counts, counted, Step, step, refuse, onLeaf, takeDue, numberOf}
+use Rattle.chain.proofs.Numbers.{leaf-prints}
 use Rattle.chain.proofs.Refusing.{leaf-answer, leaf-made}
-use Rattle.states.specs.Lent.{Comes, countsOf, afterLeaf, Awaits, Set, SetFor}
+use Rattle.states.specs.Lent.{Store, partA, partNode, withLeaf, stageOf, countsOf, lineDue, LeafDue, Set, SetFor}
 use Rattle.states.specs.declared.Due.{Due}
-use Rattle.states.specs.declared.Due.the-variants as Dues
-use Rattle.states.specs.declared.Taken.{Taken}
+use Rattle.states.specs.declared.Run.{Run}
 
--- a run that has stopped, whatever would be due
-pub refused-step : (t : Taken) (out : List ℕ) (n : Counts) (number : ℕ) → Comes t out (refuse n number) → t .run .due ≡ Dues.Nothing → (s : Stage)
-    → step (countsOf (t .run)) (afterLeaf (t .run .due) s) (take (t .length) out) ≡ refuse n number
-unfolding afterLeaf
-refused-step t out n number e d s =
-    rw d (ap (λ (x : Step). step (x .state .counts) stopped (x .output)) (e (record { A = []; T₁ = []; D₁ = []; S₁ = []; T₂ = []; D₂ = []; S₂ = [] })))
-
--- what is due after a leaf that is taken
-module _ (due : Due) where
-  pub awaited-stage : Awaits due → (s : Stage) → afterLeaf due s ≡ s
-  unfolding afterLeaf
-  awaited-stage (inl e) s = rw e refl
-  awaited-stage (inr e) s = rw e refl
-
-  pub awaited-set : Awaits due → (s : Setting) → Set s → SetFor due s
-  unfolding SetFor
-  awaited-set (inl e) s h = rw e h
-  awaited-set (inr e) s h = rw e h
+-- what is due after a leaf that is taken has a setting
+pub set-after : (due after : Due) → LeafDue due after → (s : Setting) → Set s → SetFor after s
+unfolding SetFor
+set-after due after (inl e) s h = rw (e .1) h
+set-after due after (inr e) s h = rw (e .1) h
 
 module _ (n : Counts) (p : Parameters) (A : List ℕ) (o : Option (List ℤ)) where
   pub leaf-unread : o ≡ none → (after : Node → Stage) → onLeaf n p A after o ≡ refuse n 13
@@ -46,19 +35,41 @@ module _ (n : Counts) (p : Parameters) (A : List ℕ) (o : Option (List ℤ)) wh
   -- from the leaf's end
   module _ (S : List ℤ) (r : o ≡ some S) (before : Node) (v : Meaning) (z : Node) (e : ends v z ≡ leafOf p A S before) where
     pub leaf-refused : (number : ℕ) → v ≡ refused number → (after : Node → Stage) → onLeaf n p A after o ≡ refuse n number
-    unfolding onLeaf refuses numberOf
+    unfolding onLeaf refusal refuses numberOf
     leaf-refused number f after = rw (r, leaf-answer p A S before v z e, f) refl
 
     leaf-goes-on : refuses v ≡ false → (after : Node → Stage)
-        → onLeaf n p A after o ≡ step (counted (n .line + 1) (n .leaves + 1) (n .folds)) (after z) (leafLine (n .leaves + 1) (z .instance))
+        → onLeaf n p A after o ≡ step (counted (n .line + 1) (n .leaves + 1) (n .folds)) (after z) (leafLine p (n .leaves + 1) (z .instance))
     unfolding onLeaf
     leaf-goes-on f after =
         rw (r, leaf-answer p A S before v z e, f)
-        (sym (ap (λ (y : Node). step (counted (n .line + 1) (n .leaves + 1) (n .folds)) (after y) (leafLine (n .leaves + 1) (y .instance))) (leaf-made p A S before v z e f)))
+        (sym (ap (λ (y : Node). step (counted (n .line + 1) (n .leaves + 1) (n .folds)) (after y) (leafLine p (n .leaves + 1) (y .instance))) (leaf-made p A S before v z e f)))
 
-    -- where the slices hold z, and the line is z's
-    pub leaf-taken : refuses v ≡ false → (z′ : Node) → z′ ≡ z → (due : Due) → Awaits due → (output : List ℕ) → output ≡ leafLine (n .leaves + 1) (z′ .instance)
-        → (after : Node → Stage) → step (counted (n .line + 1) (n .leaves + 1) (n .folds)) (afterLeaf due (after z′)) output ≡ onLeaf n p A after o
-    leaf-taken f z′ same due w output l after =
-        rw (awaited-stage due w (after z′), l)
-        (ap (λ (y : Node). step (counted (n .line + 1) (n .leaves + 1) (n .folds)) (after y) (leafLine (n .leaves + 1) (y .instance))) same ∙ sym (leaf-goes-on f after))
+    -- where the slices hold z, and the line has z's elements
+    pub leaf-taken : refuses v ≡ false → (z′ : Node) → z′ ≡ z → Fits (matrixD p) (z′ .instance .D) → (output : List ℕ)
+        → output ≡ leafText (n .leaves + 1) (z′ .instance .T) (z′ .instance .D)
+        → (after : Node → Stage) → step (counted (n .line + 1) (n .leaves + 1) (n .folds)) (after z′) output ≡ onLeaf n p A after o
+    leaf-taken f z′ same fits output l after =
+        rw (l, leaf-prints p (n .leaves + 1) (z′ .instance) fits)
+        (ap (λ (y : Node). step (counted (n .line + 1) (n .leaves + 1) (n .folds)) (after y) (leafLine p (n .leaves + 1) (y .instance))) same ∙ sym (leaf-goes-on f after))
+
+-- where a leaf is due, the first or a further one
+module _ (r : Run) (next : Due) (m : Store) (line : List ℕ) where
+  abbrev p : Parameters
+  p = parametersOf (r .setting)
+
+  abbrev leafBy : (Node → Stage) → Step
+  leafBy after = onLeaf (countsOf r) p (partA p (m .A)) after (recordOf readI64 leafWord (matrixS p .size) line)
+
+  pub line-refused : LeafDue (r .due) next → (number : ℕ) → ((after : Node → Stage) → leafBy after ≡ refuse (countsOf r) number)
+      → refuse (countsOf r) number ≡ lineDue (r .due) r m line
+  unfolding stageOf takeDue
+  line-refused (inl e) number h = rw (e .0) (sym (h (λ node. leaf p (partA p (m .A)) node)))
+  line-refused (inr e) number h = rw (e .0) (sym (h (λ node. challenge p (partA p (m .A)) (partNode p (m .T₁) (m .D₁) (m .S₁)) node)))
+
+  pub line-taken : LeafDue (r .due) next → (n : Counts) (z : Node) (output : List ℕ)
+      → ((after : Node → Stage) → step n (after (partNode p (z .instance .T) (z .instance .D) (z .witness))) output ≡ leafBy after)
+      → step n (stageOf next p (withLeaf next z m)) output ≡ lineDue (r .due) r m line
+  unfolding stageOf takeDue withLeaf
+  line-taken (inl e) n z output h = rw (e .0, e .1) (h (λ node. leaf p (partA p (m .A)) node))
+  line-taken (inr e) n z output h = rw (e .0, e .1) (h (λ node. challenge p (partA p (m .A)) (partNode p (m .T₁) (m .D₁) (m .S₁)) node))

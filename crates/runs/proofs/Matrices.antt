@@ -2,13 +2,13 @@
 use mathlib.Core.Path.{_≡_, sym, _∙_, ap}
 use mathlib.Core.List.{List, _++_}
 use mathlib.Core.Option.{Option, some, none}
-use Prim.Native.Nat.{ℕ, _+_}
+use Prim.Native.Nat.{ℕ}
 use lib.ListN.{length}
 use lib.Seq.{take-at}
 use Rattle.settings.specs.Settings.{Parameters, parametersOf}
 use Rattle.lova.specs.Stored.{matrixA}
 use Rattle.chain.specs.Chain.{Counts, refuse, onMatrix}
-use Rattle.states.specs.Lent.{ComesA, stageOf, countsOf}
+use Rattle.states.specs.Lent.{Whatever, withA, stageOf, countsOf, stepOf}
 use Rattle.states.specs.declared.Due.the-variants as Dues
 use Rattle.states.specs.declared.Run.{Run}
 use Rattle.states.proofs.Steps.{after}
@@ -19,7 +19,7 @@ module _ (n : Counts) (p : Parameters) (o : Option (List ℕ)) where
   matrix-unread e = ap (onMatrix n p) e
 
 pub matrix-taken : (r : Run) (o : Option (List ℕ)) (xs ys rest out : List ℕ) → o ≡ some xs → ys ≡ xs → length xs ≡ matrixA (parametersOf (r .setting)) .size
-    → ComesA (record { run = after r Dues.First (r .setting); length = 0 }) (ys ++ rest) out (onMatrix (countsOf r) (parametersOf (r .setting)) o)
+    → Whatever (λ m. stepOf (record { run = after r Dues.First (r .setting); length = 0 }) (withA (ys ++ rest) m) out ≡ onMatrix (countsOf r) (parametersOf (r .setting)) o)
 unfolding stageOf onMatrix
 matrix-taken r o xs ys rest out e same long m =
     let p = parametersOf (r .setting) in

@@ -1,12 +1,7 @@
 // The record `c`. A line that is refused changes no matrix.
 ghost use mathlib.Core.Path.{_≡_};
-ghost use Prim.Native.Nat.{_+_, _^_, _≤_, _<_};
-ghost use lib.ListN.{length};
-ghost use Rattle.settings.specs.Settings.{parametersOf};
-ghost use Rattle.text.specs.Fields.{recordOf, readTernary};
-ghost use Rattle.lova.specs.Stored.{sizeC};
-ghost use Rattle.chain.specs.Chain.{onChallenge, cWord};
-ghost use Rattle.states.specs.Lent.{Sound, Set, Lent, Roomy, countsOf, stepOf, partA, partNode};
+ghost use Rattle.chain.specs.Nodes.{nodeBefore, nodeAfter};
+ghost use Rattle.states.specs.Lent.{store, storeBefore, storeAfter, stepOf, lineDue, Set, Lent, Ready, Safe};
 ghost use Rattle.states.specs.declared.Due.the-variants as Dues;
 use lova::Verdict;
 use states::Due;
@@ -32,12 +27,14 @@ impl Challenge {
         s2: &[i64],
         out: &mut [u8],
     ) -> Taken
-        requires { ⌜ Sound (self .run) × (self .run .line < 2 ^ 62) × Roomy (now out) ⌝ }
+        requires { ⌜ Ready (self .run) (now out) ⌝ }
         requires { ⌜ Set (self .run .setting) ⌝ }
-        requires { ⌜ Lent (record { A = now a; T₁ = now t1; D₁ = now d1; S₁ = now s1; T₂ = now t2; D₂ = now d2; S₂ = now s2 }) ⌝ }
-        ensures { λ r. ⌜ stepOf r (record { A = now (a .entry); T₁ = now (t1 .exit); D₁ = now (d1 .exit); S₁ = now (s1 .exit); T₂ = now (t2 .entry); D₂ = now (d2 .entry); S₂ = now (s2 .entry) }) (now (out .exit)) ≡ onChallenge (countsOf (self .run)) (parametersOf (self .run .setting)) (partA (parametersOf (self .run .setting)) (now (a .entry))) (partNode (parametersOf (self .run .setting)) (now (t1 .entry)) (now (d1 .entry)) (now (s1 .entry))) (partNode (parametersOf (self .run .setting)) (now (t2 .entry)) (now (d2 .entry)) (now (s2 .entry))) (recordOf readTernary cWord (sizeC (parametersOf (self .run .setting))) (now (line .entry))) ⌝ }
-        ensures { λ r. ⌜ Sound (r .run) × (r .run .line ≤ self .run .line + 1) × (r .length ≤ 512) ⌝ }
-        ensures { λ r. ⌜ (r .run .due ≡ Dues.Nothing → (now (t1 .exit) ≡ now (t1 .entry)) × (now (d1 .exit) ≡ now (d1 .entry)) × (now (s1 .exit) ≡ now (s1 .entry))) ⌝ }
+        requires { ⌜ Lent (store (now a) (now t1) (now d1) (now s1) (now t2) (now d2) (now s2)) ⌝ }
+        ensures { λ r. ⌜
+            stepOf r (storeAfter a t1 d1 s1 t2 d2 s2) (now (out .exit))
+            ≡ lineDue Dues.Challenge (self .run) (storeBefore a t1 d1 s1 t2 d2 s2) (now (line .entry)) ⌝ }
+        ensures { λ r. ⌜ Safe r (self .run) ⌝ }
+        ensures { λ r. ⌜ (r .run .due ≡ Dues.Nothing → nodeAfter t1 d1 s1 ≡ nodeBefore t1 d1 s1) ⌝ }
     {
         let state = self.run;
         let setting = state.setting;

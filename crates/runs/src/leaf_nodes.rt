@@ -1,12 +1,13 @@
-// A leaf of a chain, by commit. Settings are those that the chain program takes, so that all matrices stand in local arrays.
+// A leaf of a chain, by commit. Settings are those that the chain program takes, so that all matrices stand in local
+// arrays.
 ghost use mathlib.Core.Path.{_≡_};
 ghost use mathlib.Core.Bool.{true};
 ghost use Rattle.settings.specs.Settings.{parametersOf};
 ghost use Rattle.lova.specs.Answers.{ends, answerOf};
-ghost use Rattle.lova.specs.Stored.{matrixT, matrixS, matrixD};
+ghost use Rattle.lova.specs.Stored.{matrixS};
 ghost use Rattle.lova.specs.Calls.{Rebuilt, Fits};
 ghost use Rattle.chain.specs.Limits.{small, programLimits};
-ghost use Rattle.chain.specs.Nodes.{nodeOf, leafOf};
+ghost use Rattle.chain.specs.Nodes.{nodeOf, FitsNode, nodeBefore, nodeAfter, leafOf};
 use lova::Answer;
 use settings::Setting;
 
@@ -22,8 +23,10 @@ pub(crate) fn leaf(
     requires { ⌜ Rebuilt setting ⌝ }
     requires { ⌜ small programLimits (parametersOf setting) ≡ true ⌝ }
     requires { ⌜ Fits (matrixS (parametersOf setting)) (now s) ⌝ }
-    requires { ⌜ Fits (matrixT (parametersOf setting)) (now t) × Fits (matrixD (parametersOf setting)) (now d) × Fits (matrixS (parametersOf setting)) (now w) ⌝ }
-    ensures { λ r. ⌜ ends (answerOf r) (nodeOf (now (t .exit)) (now (d .exit)) (now (w .exit))) ≡ leafOf (parametersOf setting) (now (a .entry)) (now (s .entry)) (nodeOf (now (t .entry)) (now (d .entry)) (now (w .entry))) ⌝ }
+    requires { ⌜ FitsNode (parametersOf setting) (nodeOf (now t) (now d) (now w)) ⌝ }
+    ensures { λ r. ⌜
+        ends (answerOf r) (nodeAfter t d w)
+        ≡ leafOf (parametersOf setting) (now (a .entry)) (now (s .entry)) (nodeBefore t d w) ⌝ }
 {
     let mut made_t = [0u64; 16];
     let mut made_d = [0i64; 4];

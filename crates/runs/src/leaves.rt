@@ -1,13 +1,7 @@
 // The record `leaf`. A line that is refused changes no matrix.
 ghost use mathlib.Core.Path.{_≡_};
-ghost use Prim.Native.Nat.{_+_, _^_, _≤_, _<_};
-ghost use lib.ListN.{length};
-ghost use Rattle.settings.specs.Settings.{parametersOf};
-ghost use Rattle.text.specs.Fields.{recordOf, readI64};
-ghost use Rattle.lova.specs.Stored.{matrixS};
-ghost use Rattle.chain.specs.Reports.{leafWord};
-ghost use Rattle.chain.specs.Chain.{onLeaf};
-ghost use Rattle.states.specs.Lent.{Sound, Set, Roomy, Awaits, Follows, countsOf, LeafComes, partA};
+ghost use Rattle.chain.specs.Nodes.{nodeOf, nodeBefore, nodeAfter};
+ghost use Rattle.states.specs.Lent.{Whatever, withA, withLeaf, stepOf, lineDue, Set, LeafDue, LentNode, Ready, Safe};
 ghost use Rattle.states.specs.declared.Due.the-variants as Dues;
 use lova::Answer;
 use states::Due;
@@ -31,12 +25,14 @@ impl Leaf {
         s: &mut [i64],
         out: &mut [u8],
     ) -> Taken
-        requires { ⌜ Sound (self .run) × (self .run .line < 2 ^ 62) × Roomy (now out) ⌝ }
-        requires { ⌜ Set (self .run .setting) × Awaits due ⌝ }
-        requires { ⌜ (length (now a) ≡ 128) × (length (now t) ≡ 16) × (length (now d) ≡ 4) × (length (now s) ≡ 32) ⌝ }
-        ensures { λ r. ⌜ LeafComes r (parametersOf (self .run .setting)) (now (t .exit)) (now (d .exit)) (now (s .exit)) (now (out .exit)) (λ after. onLeaf (countsOf (self .run)) (parametersOf (self .run .setting)) (partA (parametersOf (self .run .setting)) (now (a .entry))) after (recordOf readI64 leafWord (matrixS (parametersOf (self .run .setting)) .size) (now (line .entry)))) ⌝ }
-        ensures { λ r. ⌜ Sound (r .run) × (r .run .line ≤ self .run .line + 1) × (r .length ≤ 512) × Follows (r .run) due (self .run .setting) ⌝ }
-        ensures { λ r. ⌜ (r .run .due ≡ Dues.Nothing → (now (t .exit) ≡ now (t .entry)) × (now (d .exit) ≡ now (d .entry)) × (now (s .exit) ≡ now (s .entry))) ⌝ }
+        requires { ⌜ Ready (self .run) (now out) ⌝ }
+        requires { ⌜ Set (self .run .setting) × LeafDue (self .run .due) due ⌝ }
+        requires { ⌜ LentNode (now a) (nodeOf (now t) (now d) (now s)) ⌝ }
+        ensures { λ r. ⌜ Whatever (λ m.
+            stepOf r (withLeaf due (nodeAfter t d s) (withA (now (a .entry)) m)) (now (out .exit))
+            ≡ lineDue (self .run .due) (self .run) (withA (now (a .entry)) m) (now (line .entry))) ⌝ }
+        ensures { λ r. ⌜ Safe r (self .run) ⌝ }
+        ensures { λ r. ⌜ (r .run .due ≡ Dues.Nothing → nodeAfter t d s ≡ nodeBefore t d s) ⌝ }
     {
         let state = self.run;
         let setting = state.setting;

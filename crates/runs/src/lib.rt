@@ -1,9 +1,7 @@
 // A line of the chain program, by what is due. A line that is refused changes no matrix.
 ghost use mathlib.Core.Path.{_≡_};
-ghost use Prim.Native.Nat.{_+_, _^_, _≤_, _<_};
-ghost use lib.ListN.{length, take};
 ghost use Rattle.chain.specs.Chain.{takeLine};
-ghost use Rattle.states.specs.Lent.{Store, Sound, Lent, Roomy, stateOf, stepOf};
+ghost use Rattle.states.specs.Lent.{store, storeBefore, storeAfter, stateOf, stepOf, Lent, Ready, Safe};
 ghost use Rattle.states.specs.declared.Due.the-variants as Dues;
 
 mod challenges;
@@ -33,11 +31,14 @@ pub fn take(
     s2: &mut [i64],
     out: &mut [u8],
 ) -> Taken
-    requires { ⌜ Sound state × (state .line < 2 ^ 62) × Roomy (now out) ⌝ }
-    requires { ⌜ Lent (record { A = now a; T₁ = now t1; D₁ = now d1; S₁ = now s1; T₂ = now t2; D₂ = now d2; S₂ = now s2 }) ⌝ }
-    ensures { λ r. ⌜ stepOf r (record { A = now (a .exit); T₁ = now (t1 .exit); D₁ = now (d1 .exit); S₁ = now (s1 .exit); T₂ = now (t2 .exit); D₂ = now (d2 .exit); S₂ = now (s2 .exit) }) (now (out .exit)) ≡ takeLine (stateOf state (record { A = now (a .entry); T₁ = now (t1 .entry); D₁ = now (d1 .entry); S₁ = now (s1 .entry); T₂ = now (t2 .entry); D₂ = now (d2 .entry); S₂ = now (s2 .entry) })) (now (line .entry)) ⌝ }
-    ensures { λ r. ⌜ Sound (r .run) × (r .run .line ≤ state .line + 1) × (r .length ≤ 512) ⌝ }
-    ensures { λ r. ⌜ (r .run .due ≡ Dues.Nothing → _≡_ {A = Store} (record { A = now (a .exit); T₁ = now (t1 .exit); D₁ = now (d1 .exit); S₁ = now (s1 .exit); T₂ = now (t2 .exit); D₂ = now (d2 .exit); S₂ = now (s2 .exit) }) (record { A = now (a .entry); T₁ = now (t1 .entry); D₁ = now (d1 .entry); S₁ = now (s1 .entry); T₂ = now (t2 .entry); D₂ = now (d2 .entry); S₂ = now (s2 .entry) })) ⌝ }
+    requires { ⌜ Ready state (now out) ⌝ }
+    requires { ⌜ Lent (store (now a) (now t1) (now d1) (now s1) (now t2) (now d2) (now s2)) ⌝ }
+    ensures { λ r. ⌜
+        stepOf r (storeAfter a t1 d1 s1 t2 d2 s2) (now (out .exit))
+        ≡ takeLine (stateOf state (storeBefore a t1 d1 s1 t2 d2 s2)) (now (line .entry)) ⌝ }
+    ensures { λ r. ⌜ Safe r state ⌝ }
+    ensures { λ r. ⌜ (r .run .due ≡ Dues.Nothing
+        → storeAfter a t1 d1 s1 t2 d2 s2 ≡ storeBefore a t1 d1 s1 t2 d2 s2) ⌝ }
 {
     if chain::LONGEST_LINE < line.len() {
         return state.refuse_bad(out);

@@ -1,8 +1,7 @@
 // The record `param`.
-ghost use Prim.Native.Nat.{_+_, _^_, _≤_, _<_};
-ghost use Rattle.text.specs.Fields.{recordOf, readU64};
-ghost use Rattle.chain.specs.Chain.{onParam, paramWord};
-ghost use Rattle.states.specs.Lent.{Sound, Roomy, countsOf, Comes};
+ghost use mathlib.Core.Path.{_≡_};
+ghost use Rattle.states.specs.Lent.{Whatever, stepOf, lineDue, Ready, Safe};
+ghost use Rattle.states.specs.declared.Due.the-variants as Dues;
 use settings::Setting;
 use states::Due;
 use states::Run;
@@ -16,9 +15,11 @@ pub(crate) struct Param {
 impl Param {
     // `param` with n, m, t, b, B.
     pub(crate) fn take(self, line: &[u8], out: &mut [u8]) -> Taken
-        requires { ⌜ Sound (self .run) × (self .run .line < 2 ^ 62) × Roomy (now out) ⌝ }
-        ensures { λ r. ⌜ Comes r (now (out .exit)) (onParam (countsOf (self .run)) (recordOf readU64 paramWord 5 (now (line .entry)))) ⌝ }
-        ensures { λ r. ⌜ Sound (r .run) × (r .run .line ≤ self .run .line + 1) × (r .length ≤ 512) ⌝ }
+        requires { ⌜ Ready (self .run) (now out) ⌝ }
+        ensures { λ r. ⌜ Whatever (λ m.
+            stepOf r m (now (out .exit))
+            ≡ lineDue Dues.Param (self .run) m (now (line .entry))) ⌝ }
+        ensures { λ r. ⌜ Safe r (self .run) ⌝ }
     {
         let state = self.run;
         let mut five = [0u64; 5];

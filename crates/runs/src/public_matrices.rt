@@ -1,12 +1,9 @@
 // The record `a`, the public matrix. A line that is refused changes nothing.
 ghost use mathlib.Core.Path.{_≡_};
-ghost use Prim.Native.Nat.{_+_, _^_, _≤_, _<_};
-ghost use lib.ListN.{length};
-ghost use Rattle.settings.specs.Settings.{parametersOf};
-ghost use Rattle.text.specs.Fields.{recordOf, readU64};
 ghost use Rattle.lova.specs.Stored.{matrixA};
-ghost use Rattle.chain.specs.Chain.{onMatrix, aWord};
-ghost use Rattle.states.specs.Lent.{Sound, Set, Roomy, countsOf, ComesA};
+ghost use Rattle.lova.specs.Calls.{Fits};
+ghost use Rattle.chain.specs.Limits.{largest};
+ghost use Rattle.states.specs.Lent.{Whatever, withA, stepOf, lineDue, Set, Ready, Safe};
 ghost use Rattle.states.specs.declared.Due.the-variants as Dues;
 use states::Due;
 use states::Run;
@@ -20,10 +17,12 @@ pub(crate) struct Matrix {
 impl Matrix {
     // `a` with n×m entries.
     pub(crate) fn take(self, line: &[u8], a: &mut [u64], out: &mut [u8]) -> Taken
-        requires { ⌜ Sound (self .run) × (self .run .line < 2 ^ 62) × Roomy (now out) ⌝ }
-        requires { ⌜ Set (self .run .setting) × (length (now a) ≡ 128) ⌝ }
-        ensures { λ r. ⌜ ComesA r (now (a .exit)) (now (out .exit)) (onMatrix (countsOf (self .run)) (parametersOf (self .run .setting)) (recordOf readU64 aWord (matrixA (parametersOf (self .run .setting)) .size) (now (line .entry)))) ⌝ }
-        ensures { λ r. ⌜ Sound (r .run) × (r .run .line ≤ self .run .line + 1) × (r .length ≤ 512) ⌝ }
+        requires { ⌜ Ready (self .run) (now out) ⌝ }
+        requires { ⌜ Set (self .run .setting) × Fits (matrixA largest) (now a) ⌝ }
+        ensures { λ r. ⌜ Whatever (λ m.
+            stepOf r (withA (now (a .exit)) m) (now (out .exit))
+            ≡ lineDue Dues.Matrix (self .run) m (now (line .entry))) ⌝ }
+        ensures { λ r. ⌜ Safe r (self .run) ⌝ }
         ensures { λ r. ⌜ (r .run .due ≡ Dues.Nothing → now (a .exit) ≡ now (a .entry)) ⌝ }
     {
         let state = self.run;

@@ -7,6 +7,7 @@ ghost use lib.ListN.{length};
 ghost use Rattle.matrices.specs.Matrices.{squaredLength};
 ghost use Rattle.matrices.specs.Tables.{entry, signed};
 ghost use Rattle.settings.specs.Settings.{parametersOf};
+ghost use Rattle.lova.specs.Lent.{instanceBefore, messageBefore};
 ghost use Rattle.lova.specs.Tests.{all, every, bounded, fitsInstance, fitsMessage};
 ghost use Rattle.lova.specs.Calls.{Rebuilt};
 use settings::Setting;
@@ -59,7 +60,7 @@ pub fn entries_within(x: &[i64], rows: usize, cols: usize, limit: u64) -> bool
 // Whether t and d have the lengths of an instance's T and D.
 pub fn instance_fits(setting: Setting, t: &[u64], d: &[i64]) -> bool
     requires { ⌜ Rebuilt setting ⌝ }
-    ensures { λ r. ⌜ r ≡ fitsInstance (parametersOf setting) (record { T = now (t .entry); D = now (d .entry) }) ⌝ }
+    ensures { λ r. ⌜ r ≡ fitsInstance (parametersOf setting) (instanceBefore t d) ⌝ }
 {
     t.len() == setting.n * setting.t && d.len() == setting.t * setting.t
 }
@@ -74,7 +75,7 @@ pub fn both(a: bool, b: bool) -> bool
 // Whether v, tt and dd have the lengths of a message's V, T~ and D~.
 pub fn message_fits(setting: Setting, v: &[i64], tt: &[u64], dd: &[i64]) -> bool
     requires { ⌜ Rebuilt setting ⌝ }
-    ensures { λ r. ⌜ r ≡ fitsMessage (parametersOf setting) (record { «V» = now (v .entry); T~ = now (tt .entry); D~ = now (dd .entry) }) ⌝ }
+    ensures { λ r. ⌜ r ≡ fitsMessage (parametersOf setting) (messageBefore v tt dd) ⌝ }
 {
     let wide = setting.columns;
     let first = both(

@@ -1,12 +1,13 @@
 // The setting of a fold: its limits, the checking constructor and the house list.
 ghost use mathlib.Core.Path.{_≡_};
 ghost use mathlib.Core.Bool.{_&&_};
-ghost use Rattle.settings.specs.Settings.{within, limits, settingRefusal, refusedOf, checkedOf};
+ghost use Rattle.settings.specs.Settings.{within, limits, settingRefusal, parametersOf, refusedOf, checkedOf};
 ghost use Rattle.settings.specs.HouseList.{parameters, listedOf};
 
 mod bounds;
 
-// The five numbers of a setting, with what they fix: k digits to an entry, N columns of a digit witness, the powers of b.
+// The five numbers of a setting, with what they fix: k digits to an entry, N columns of a digit witness, the powers of
+// b.
 pub struct Setting {
     pub n: usize,
     pub m: usize,
@@ -18,7 +19,8 @@ pub struct Setting {
     pub powers: [u64; Setting::POWERS],
 }
 
-// The number of a refusal, or 0 and the setting. (An enum cannot hold the array.) Beside a refusal all of the setting is zero.
+// The number of a refusal, or 0 and the setting. (An enum cannot hold the array.) Beside a refusal all of the setting
+// is zero.
 pub struct Checked {
     pub refusal: u8,
     pub setting: Setting,
@@ -256,6 +258,14 @@ impl Setting {
                 powers: powers,
             },
         }
+    }
+
+    // The setting of this one's five numbers, whatever its k, N and powers say, or the first of 1 to 6: what every
+    // operation begins with.
+    pub fn rebuilt(self) -> Checked
+        ensures { λ r. ⌜ r ≡ checkedOf (parametersOf self) ⌝ }
+    {
+        Setting::new(self.n, self.m, self.t, self.b, self.bound)
     }
 
     // A setting of the house list, or refusal 12 for a number outside 1..4.

@@ -1,11 +1,10 @@
--- A row of small numbers, padded with zeros, times the columns of a challenge.
-use mathlib.Core.Path.{_≡_, _∙_, ap, ap₂}
+-- A row of small numbers, padded with zeros, times the columns of a matrix.
+use mathlib.Core.Path.{_≡_, _∙_, ap}
 use mathlib.Core.Logic.{⊎-elim}
 use mathlib.Core.List.{List, _++_}
 use Prim.Native.Nat.{ℕ, _+_, _*_, _-_, _<_, _≤_}
 use native.Mathlib.Omega.{arith}
 use native.Mathlib.Nat.{zero-add}
-use lib.Arith.{digits-lt}
 use lib.ListN.{length, getD, take, drop, List·getD-append}
 use lib.Seq.{getD-append-add, getD-drop, length-front}
 use lib.IntN.{ℤ, pos, _*ℤ_}
@@ -14,14 +13,14 @@ use Rattle.integers.proofs.Lists.{length-build, getD-build}
 use Rattle.integers.proofs.Sums.{sum-cong}
 use Rattle.integers.proofs.Tests.{le-or-lt}
 use Rattle.matrices.specs.Matrices.{product}
-use Rattle.matrices.specs.Tables.{signed, challenge}
+use Rattle.matrices.specs.Tables.{signed}
 use Rattle.small_rows.specs.Small.{Within}
 use Rattle.dots.specs.Dots.{dots}
 use Rattle.small_fold.specs.Padded.{Padded}
-use Rattle.small_rows.specs.Columns.{Columns}
+use Rattle.small_rows.specs.Columns.{byColumns}
 
 -- row r of s in the place of the first n numbers
-module _ (s : List ℤ) (n r : ℕ) (p row : List ℤ) (w : Padded n p) (small : Within 1024 s) (e : row ≡ build n (signed n s r)) where
+module _ (s : List ℤ) (n r : ℕ) (p row : List ℤ) (h : ℕ) (w : Padded h n p) (small : Within h s) (e : row ≡ build n (signed n s r)) where
   size : length row ≡ n
   size = ap length e ∙ length-build n (signed n s r)
 
@@ -39,9 +38,9 @@ module _ (s : List ℤ) (n r : ℕ) (p row : List ℤ) (w : Padded n p) (small :
       ∙ getD-drop n p (k - n) (pos 0)
       ∙ w .zero (n + (k - n)) (omega arith)
 
-  pub padded-row : length row ≡ length (take n p) → Padded n (row ++ drop n p)
-  padded-row h = record {
-    long = length-front p row n h ∙ w .long;
+  pub padded-row : length row ≡ length (take n p) → Padded h n (row ++ drop n p)
+  padded-row l = record {
+    long = length-front p row n l ∙ w .long;
     few = w .few;
     small = λ k. ⊎-elim
         (λ (l : n ≤ k). rw (back k l) (omega arith))
@@ -50,9 +49,7 @@ module _ (s : List ℤ) (n r : ℕ) (p row : List ℤ) (w : Padded n p) (small :
     zero = back;
   }
 
-  -- its product with column j of the challenge, which stands in q by columns
-  pub row-times : (c : List ℕ) (t j : ℕ) (q : List ℤ) → j < t → Columns 512 t (challenge t c) (n * t) q
-      → dots (row ++ drop n p) q 0 (j * 512) n ≡ product n (signed n s) (challenge t c) r j
-  row-times c t j q hj columns = sum-cong n _ _ (λ k h. ap₂ _*ℤ_
-      (ap (λ (x : ℕ). getD (row ++ drop n p) x (pos 0)) (zero-add k) ∙ front k h)
-      (columns .cells k j (omega (arith, w .few)) hj (digits-lt h hj)))
+  -- its product with column j of a matrix that stands in q by columns
+  pub row-times : (j : ℕ) (q : List ℤ) → dots (row ++ drop n p) q 0 (j * 512) n ≡ product n (signed n s) (byColumns q) r j
+  row-times j q = sum-cong n _ _ (λ k h. ap (λ (z : ℤ). z *ℤ byColumns q k j)
+      (ap (λ (x : ℕ). getD (row ++ drop n p) x (pos 0)) (zero-add k) ∙ front k h))

@@ -8,18 +8,18 @@ use borrow.Author.Count.{below-more}
 use lib.Arith.{digits-lt}
 use lib.ListN.{length, getD, take, drop, replicate, length-take, length-drop, List·getD-eq-default}
 use lib.Seq.{getD-take, getD-drop}
-use lib.IntN.{ℤ, pos, _+ℤ_, _*ℤ_, zero-*ℤ}
+use lib.IntN.{ℤ, pos, natAbs, _+ℤ_, _*ℤ_, zero-*ℤ}
 use Rattle.integers.proofs.Lists.{part-long, part-in, part-before, part-after}
-use Rattle.integers.proofs.Sums.{sum-cong, sum-split, sum-none-yet, sum-past}
+use Rattle.integers.proofs.Sums.{sum-cong, sum-split, sum-none-yet, sum-past, sumℕ-cong}
 use Rattle.matrices.specs.Matrices.{Matrix, gram, transposed}
+use Rattle.matrices.specs.Elements.{exactly, Added}
 use Rattle.matrices.specs.Tables.{table, signed}
 use Rattle.matrices.proofs.Matrices.{transposed-product}
 use Rattle.matrices.proofs.Tables.{row-within}
 use Rattle.matrices.proofs.Bounds.{product-bound}
-use Rattle.small_rows.specs.Small.{Within}
+use Rattle.small_rows.specs.Small.{Within, SmallBlocks}
 use Rattle.small_rows.specs.Columns.{Columns}
-use Rattle.small_rows.specs.Rows.{Added}
-use Rattle.small_gram.specs.Halves.{blockOf, UpperWithin, UpperAdded, Half, Mirrors}
+use Rattle.small_gram.specs.Halves.{blockOf, BlockFits, UpperWithin, UpperAdded, Half, Mirrors}
 use Rattle.small_rows.proofs.Small.{within-list, zeros}
 use Rattle.small_gram.proofs.Halves.{half-all}
 
@@ -47,7 +47,7 @@ module _ (n : ℕ) (F : Matrix) (before : List ℤ) where
         rw (getD-take (to - from) (drop from d) j (pos 0) (omega arith), getD-drop from d j (pos 0), e, w .rest (i * n + (i + j)) (omega arith))
         (u i (i + j) (omega arith) (omega arith)))
 
-    pub rows-more : (ys : List ℤ) → Added (λ j. F i (i + j)) (length (take (to - from) (drop from d))) (take (to - from) (drop from d)) ys
+    pub rows-more : (ys : List ℤ) → Added exactly (λ j. F i (i + j)) 0 (length (take (to - from) (drop from d))) (take (to - from) (drop from d)) ys
         → RowsAdded n F (i + 1) before (take from d ++ (ys ++ drop (to - from) (drop from d)))
     rows-more ys r = record {
       long = part-long from (to - from) d ys (pos 0) fits size ∙ w .long;
@@ -74,7 +74,7 @@ module _ (n : ℕ) (F : Matrix) (before : List ℤ) where
             let e : i * n + (i + j) ≡ from + j = omega arith in
             ap (λ (x : ℕ). getD put x (pos 0)) e
             ∙ part-in from (to - from) d ys (pos 0) fits size j (omega arith)
-            ∙ r .done j (omega (arith, lent-size))
+            ∙ r .done j (omega arith) (omega (arith, lent-size))
             ∙ ap (λ (z : ℤ). z +ℤ F i (i + j))
             (getD-take (to - from) (drop from d) j (pos 0) (omega arith) ∙ getD-drop from d j (pos 0) ∙ ap (λ (x : ℕ). getD d x (pos 0)) (sym e)
             ∙ w .rest (i * n + (i + j)) (omega arith))
@@ -87,7 +87,7 @@ module _ (s : List ℤ) (n : ℕ) where
     lower = λ a b h m q. absurd (omega arith);
   }
 
-  pub gram-more : (base : ℕ) (p d d′ : List ℤ) → Columns 32 n (λ i j. signed n s (base + i) j) (32 * n) p → UpperAdded n (blockOf p) d d′
+  pub gram-more : (base : ℕ) (p d d′ : List ℤ) → Columns 32767 32 n (λ i j. signed n s (base + i) j) (32 * n) p → UpperAdded n (blockOf p) d d′
       → Half n (gram base (signed n s)) 0 d → Half n (gram (base + 32) (signed n s)) 0 d′
   gram-more base p d d′ c u w = record {
     upper = λ a b h m.
@@ -99,14 +99,21 @@ module _ (s : List ℤ) (n : ℕ) where
     lower = λ a b h m q. absurd (omega arith);
   }
 
+  -- and the sizes of its products are those of its rows
+  pub block-fits : (base : ℕ) (p : List ℤ) → Columns 32767 32 n (λ i j. signed n s (base + i) j) (32 * n) p → SmallBlocks n s → BlockFits n p
+  block-fits base p c few a b ha hb =
+      rw (sumℕ-cong 32 (λ r. natAbs (getD p (a * 32 + r) (pos 0) *ℤ getD p (b * 32 + r) (pos 0))) (λ r. natAbs (signed n s (base + r) a *ℤ signed n s (base + r) b))
+      (λ r q. ap₂ (λ (y z : ℤ). natAbs (y *ℤ z)) (c .cells r a q ha (digits-lt q ha)) (c .cells r b q hb (digits-lt q hb))))
+      (few base a b ha hb)
+
   -- 4096 rows of such numbers leave room for a block
-  pub gram-room : (base : ℕ) (d : List ℤ) → base ≤ 4096 → Within 1024 s → Half n (gram base (signed n s)) 0 d → UpperWithin n (2 ^ 61) d
+  pub gram-room : (base : ℕ) (d : List ℤ) → base ≤ 4096 → Within 32767 s → Half n (gram base (signed n s)) 0 d → UpperWithin n (2 ^ 61) d
   gram-room base d h small w a b l m =
       rw (w .upper a b l m)
       (omega (
         arith,
-        mul-le-mul-right (1024 * 1024) h,
-        product-bound base 1024 1024 (transposed (signed n s)) (signed n s) a b (λ r q. small (r * n + a)) (λ r q. small (r * n + b)),
+        mul-le-mul-right (32767 * 32767) h,
+        product-bound base 32767 32767 (transposed (signed n s)) (signed n s) a b (λ r q. small (r * n + a)) (λ r q. small (r * n + b)),
       ))
 
   -- rows past the last one are 0

@@ -5,16 +5,18 @@ ghost use Prim.Native.Nat.{_+_, _*_, _^_, _<_, _≤_};
 ghost use lib.ListN.{length};
 ghost use Rattle.matrices.specs.Matrices.{gram};
 ghost use Rattle.matrices.specs.Tables.{table, signed};
-ghost use Rattle.small_rows.specs.Small.{Within, SmallMatrix};
-ghost use Rattle.small_rows.specs.Rows.{Added};
-ghost use Rattle.small_gram.specs.Halves.{blockOf, UpperWithin, UpperAdded, Mirrors};
+ghost use Rattle.matrices.specs.Elements.{exactly, Added};
+ghost use Rattle.small_rows.specs.Small.{Within, SmallMatrix, SmallBlocks};
+ghost use Rattle.small_gram.specs.Halves.{blockOf, BlockFits, UpperWithin, UpperAdded, Mirrors};
 
 mod packing;
 
 // Adds the products of the block's column i with the columns from i on to `row`, which begins on the diagonal.
 fn add_row(p: &[i16], i: usize, row: &mut [i64])
-    requires { ⌜ Within 1024 (now p) × ((i + length (now row)) * 32 ≤ length (now p)) × Within (2 ^ 61) (now row) ⌝ }
-    ensures { λ _. ⌜ Added (λ j. blockOf (now (p .entry)) i (i + j)) (length (now (row .entry))) (now (row .entry)) (now (row .exit)) ⌝ }
+    requires { ⌜ BlockFits (i + length (now row)) (now p) × ((i + length (now row)) * 32 ≤ length (now p))
+        × Within (2 ^ 61) (now row) ⌝ }
+    ensures { λ _. ⌜ Added exactly (λ j. blockOf (now (p .entry)) i (i + j)) 0 (length (now (row .entry)))
+        (now (row .entry)) (now (row .exit)) ⌝ }
 {
     let mut j: usize = 0;
     while j < row.len() {
@@ -27,7 +29,8 @@ fn add_row(p: &[i16], i: usize, row: &mut [i64])
 
 // Adds the block's products to d, on and above the diagonal.
 fn add_block(p: &[i16], n: usize, d: &mut [i64])
-    requires { ⌜ Within 1024 (now p) × (n * 32 ≤ length (now p)) × (length (now d) ≡ n * n) × UpperWithin n (2 ^ 61) (now d) ⌝ }
+    requires { ⌜ BlockFits n (now p) × (n * 32 ≤ length (now p)) × (length (now d) ≡ n * n)
+        × UpperWithin n (2 ^ 61) (now d) ⌝ }
     ensures { λ _. ⌜ UpperAdded n (blockOf (now (p .entry))) (now (d .entry)) (now (d .exit)) ⌝ }
 {
     let mut i: usize = 0;
@@ -64,9 +67,10 @@ fn mirror(n: usize, d: &mut [i64])
     }
 }
 
-// The Gram matrix of s, an m by cols matrix: D~ of the digits S~. The block has room for 512 columns of 32 numbers.
-pub fn small_gram(s: &[i64], m: usize, cols: usize, out: &mut [i64])
-    requires { ⌜ SmallMatrix m cols (now s) × (m ≤ 4096) × (length (now out) ≡ cols * cols) ⌝ }
+// The Gram matrix by blocks of 32 rows. The block has room for 512 columns of 32 numbers.
+fn packed_gram(s: &[i64], m: usize, cols: usize, out: &mut [i64])
+    requires { ⌜ SmallMatrix 32767 m cols (now s) × SmallBlocks cols (now s) × (m ≤ 4096)
+        × (length (now out) ≡ cols * cols) ⌝ }
     ensures { λ _. ⌜ now (out .exit) ≡ table cols cols (gram m (signed cols (now (s .entry)))) ⌝ }
 {
     small_rows::clear(out);
@@ -78,4 +82,18 @@ pub fn small_gram(s: &[i64], m: usize, cols: usize, out: &mut [i64])
         base += 32;
     }
     mirror(cols, out);
+}
+
+// The Gram matrix of s, an m by cols matrix: D~ of the digits S~. Fewer than 8 rows take longer to pack, as 32, than to
+// multiply as they are stored.
+pub fn small_gram(s: &[i64], m: usize, cols: usize, out: &mut [i64])
+    requires { ⌜ SmallMatrix 32767 m cols (now s) × SmallBlocks cols (now s) × (m ≤ 4096)
+        × (length (now out) ≡ cols * cols) ⌝ }
+    ensures { λ _. ⌜ now (out .exit) ≡ table cols cols (gram m (signed cols (now (s .entry)))) ⌝ }
+{
+    if m < 8 {
+        cross_products::cross_products(s, s, m, cols, cols, out);
+    } else {
+        packed_gram(s, m, cols, out);
+    }
 }

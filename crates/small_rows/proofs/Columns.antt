@@ -21,15 +21,15 @@ same-cell c q r q′ r′ h h′ e = (
   sym (digits-mod q h) ∙ ap (λ (x : ℕ). x % c) e ∙ digits-mod q′ h′,
 )
 
-module _ (stride cols : ℕ) (X : Matrix) (p : List ℤ) where
-  pub columns-none : Within 1024 p → Columns stride cols X 0 p
+module _ (h stride cols : ℕ) (X : Matrix) (p : List ℤ) where
+  pub columns-none : Within h p → Columns h stride cols X 0 p
   columns-none small = record { small = small; cells = λ i j hi hj l. absurd (omega arith) }
 
   -- one entry more, that of row k and column c
-  pub columns-more : (k c : ℕ) (v : ℤ) → k < stride → c < cols → c * stride + k < length p → natAbs v ≤ 1024 → v ≡ X k c
-      → Columns stride cols X (k * cols + c) p → Columns stride cols X (k * cols + (c + 1)) (set p (c * stride + k) v)
+  pub columns-more : (k c : ℕ) (v : ℤ) → k < stride → c < cols → c * stride + k < length p → natAbs v ≤ h → v ≡ X k c
+      → Columns h stride cols X (k * cols + c) p → Columns h stride cols X (k * cols + (c + 1)) (set p (c * stride + k) v)
   columns-more k c v hk hc room small e w = record {
-    small = within-set 1024 p (c * stride + k) v room small (w .small);
+    small = within-set h p (c * stride + k) v room small (w .small);
     cells = λ i j hi hj l. ⊎-elim
         (λ (s : i * cols + j ≡ k * cols + c).
         let t = same-cell cols i j k c hj hc s in

@@ -2,14 +2,22 @@
 use mathlib.Core.Path.{_≡_, refl, sym, subst}
 use mathlib.Core.Logic.{⊎-elim}
 use mathlib.Core.List.{List}
-use Prim.Native.Nat.{ℕ, zero, suc, _+_, _<_, _≤_}
+use Prim.Native.Nat.{ℕ, zero, suc, _+_, _*_, _^_, _<_, _≤_}
 use native.Mathlib.Omega.{arith}
+use native.Mathlib.Nat.{mul-le-mul}
 use native.Mathlib.Decide.{ℕ-discrete}
 use lib.ListN.{length, getD, set, take, drop, replicate, length-take, List·getD-eq-default}
 use lib.Seq.{getD-set-same, getD-set-other, getD-take, getD-drop}
-use lib.IntN.{ℤ, pos, natAbs}
+use lib.IntN.{ℤ, pos, natAbs, _*ℤ_}
+use mir.Syntax.{w16, w64}
+use mir.Val.{SFits, toZ, ofZ}
+use mir.ValLaws.{toZ-ofZ}
 use Rattle.integers.proofs.Tests.{le-or-lt}
-use Rattle.small_rows.specs.Small.{Within}
+use Rattle.integers.proofs.Sizes.{natAbs-*, fits-size}
+use Rattle.integers.proofs.Words.{Held, held}
+use Rattle.integers.proofs.Sums.{sumℕ-le}
+use Rattle.matrices.specs.Tables.{signed}
+use Rattle.small_rows.specs.Small.{Within, SmallBlocks}
 
 module _ (M : ℕ) where
   -- past a list's end there is nothing to show
@@ -36,6 +44,18 @@ pub zeros : (n x : ℕ) → getD (replicate n (pos 0)) x (pos 0) ≡ pos 0
 zeros zero x = refl
 zeros (suc n) zero = refl
 zeros (suc n) (suc x) = zeros n x
+
+-- 32 products of numbers of at most h in size
+pub small-blocks : (h n : ℕ) (s : List ℤ) → 32 * (h * h) < 2 ^ 31 → Within h s → SmallBlocks n s
+small-blocks h n s few small base a b ha hb = omega (
+  arith,
+  sumℕ-le 32 (h * h) (λ r. natAbs (signed n s (base + r) a *ℤ signed n s (base + r) b))
+      (λ r l. rw (natAbs-* (signed n s (base + r) a) (signed n s (base + r) b)) (mul-le-mul (small ((base + r) * n + a)) (small ((base + r) * n + b)))),
+)
+
+-- a number of 16 bits in 64
+pub widened : (z : ℤ) → SFits w16 z → Held w64 (toZ w16 (ofZ w16 z)) z
+widened z f = held w64 (toZ-ofZ w16 z f) (omega (arith, fits-size w16 z f))
 
 pub within-zeros : (M n : ℕ) → Within M (replicate n (pos 0))
 within-zeros M n i = rw (zeros n i) (omega arith)

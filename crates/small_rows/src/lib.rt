@@ -1,5 +1,4 @@
-// Small signed numbers, of at most 1024 in size: the row of zeros that a sum of their products starts from, and an entry in
-// 16 bits.
+// Small signed numbers: the row of zeros that a sum of their products starts from, and an entry in 16 bits.
 ghost use mathlib.Core.Path.{_≡_};
 ghost use lib.IntN.{pos};
 ghost use lib.ListN.{length, replicate};
@@ -20,7 +19,7 @@ pub fn clear(d: &mut [i64])
 
 // Row r and column c of s, or 0 past its last row.
 pub fn fetch(s: &[i64], m: usize, n: usize, r: usize, c: usize) -> i16
-    requires { ⌜ SmallMatrix m n (now s) × (c < n) ⌝ }
+    requires { ⌜ SmallMatrix 32767 m n (now s) × (c < n) ⌝ }
     ensures { λ x. ⌜ x ≡ signed n (now (s .entry)) r c ⌝ }
 {
     if r < m { s[r * n + c] as i16 } else { 0 }

@@ -8,6 +8,7 @@ use lib.ListN.{length, take, drop, length-append, length-drop, take-append-drop}
 use lib.Seq.{take-at, length-take-le}
 use Rattle.settings.specs.Settings.{Parameters}
 use Rattle.lova.specs.Stored.{matrixT, matrixS, matrixD}
+use Rattle.chain.specs.Limits.{largest}
 use Rattle.chain.specs.Nodes.{Node, nodeOf}
 use Rattle.chain.proofs.Refusing.{node-same}
 use Rattle.states.specs.Lent.{partNode}
@@ -43,14 +44,18 @@ as-it-was k xs ys e = ap (λ (l : List _). l ++ drop k xs) e ∙ take-append-dro
 
 module _ (p : Parameters) (T₀ : List ℕ) (D₀ S₀ : List ℤ) (T : List ℕ) (D S : List ℤ) where
   -- a node that came back as it was
-  pub node-kept : nodeOf T D S ≡ partNode p T₀ D₀ S₀ → (T ++ drop (matrixT p .size) T₀ ≡ T₀) × (D ++ drop (matrixD p .size) D₀ ≡ D₀) × (S ++ drop (matrixS p .size) S₀ ≡ S₀)
+  pub node-kept : nodeOf T D S ≡ partNode p T₀ D₀ S₀ → nodeOf (T ++ drop (matrixT p .size) T₀) (D ++ drop (matrixD p .size) D₀) (S ++ drop (matrixS p .size) S₀) ≡ nodeOf T₀ D₀ S₀
   node-kept e =
-      (as-it-was (matrixT p .size) T₀ T (ap (λ (z : Node). z .instance .T) e), as-it-was (matrixD p .size) D₀ D (ap (λ (z : Node). z .instance .D) e), as-it-was (matrixS p .size) S₀ S (ap (λ (z : Node). z .witness) e))
+      node-same _ _ _ _ _ _
+      (as-it-was (matrixT p .size) T₀ T (ap (λ (z : Node). z .instance .T) e))
+      (as-it-was (matrixD p .size) D₀ D (ap (λ (z : Node). z .instance .D) e))
+      (as-it-was (matrixS p .size) S₀ S (ap (λ (z : Node). z .witness) e))
 
   -- a node that came back stands at the beginning of its slices
-  pub node-back : Part (matrixT p .size) T₀ T → Part (matrixD p .size) D₀ D → Part (matrixS p .size) S₀ S → partNode p (T ++ drop (matrixT p .size) T₀) (D ++ drop (matrixD p .size) D₀) (S ++ drop (matrixS p .size) S₀) ≡ nodeOf T D S
+  pub node-back : Part (matrixT p .size) T₀ T → Part (matrixD p .size) D₀ D → Part (matrixS p .size) S₀ S
+      → partNode p (T ++ drop (matrixT p .size) T₀) (D ++ drop (matrixD p .size) D₀) (S ++ drop (matrixS p .size) S₀) ≡ nodeOf T D S
   node-back t d s = node-same _ _ _ _ _ _ (t .same) (d .same) (s .same)
 
 -- a line with T and D has room in the output buffer
-pub line-room : (t d n t′ d′ : ℕ) → t ≡ t′ → t′ ≤ 16 → d ≡ d′ → d′ ≤ 4 → n ≡ 512 → 64 + 21 * t + 21 * d ≤ n
+pub line-room : (t d n t′ d′ : ℕ) → t ≡ t′ → t′ ≤ matrixT largest .size → d ≡ d′ → d′ ≤ matrixD largest .size → n ≡ 512 → 64 + 21 * t + 21 * d ≤ n
 line-room t d n t′ d′ et ht ed hd en = omega arith

@@ -3,16 +3,17 @@ use mathlib.Core.Path.{_≡_}
 use mathlib.Core.Logic.{_⊎_}
 use mathlib.Core.Bool.{true}
 use mathlib.Core.List.{List}
-use Prim.Native.Nat.{ℕ, _≤_}
+use Prim.Native.Nat.{ℕ, _+_, _^_, _≤_, _<_}
 use lib.IntN.{ℤ}
 use lib.ListN.{length, take}
 use Rattle.settings.specs.Settings.{Parameters, parametersOf}
 use Rattle.settings.specs.declared.Setting.{Setting}
 use Rattle.lova.specs.Stored.{matrixA, matrixT, matrixS, matrixD}
-use Rattle.lova.specs.Calls.{Rebuilt}
-use Rattle.chain.specs.Limits.{small, programLimits}
+use Rattle.lova.specs.Lent.{LentSlice}
+use Rattle.lova.specs.Calls.{Rebuilt, Fits}
+use Rattle.chain.specs.Limits.{small, programLimits, largest}
 use Rattle.chain.specs.Nodes.{Node, nodeOf}
-use Rattle.chain.specs.Chain.{Stage, param, matrix, first, leaf, challenge, stopped, Counts, counted, State, Step, step, start, badLine, atEnd}
+use Rattle.chain.specs.Chain.{Stage, param, matrix, first, leaf, challenge, stopped, Counts, counted, State, Step, takeDue}
 use Rattle.states.specs.declared.Due.{Due}
 use Rattle.states.specs.declared.Due.the-variants as Dues
 use Rattle.states.specs.declared.Run.{Run}
@@ -27,6 +28,41 @@ pub record Store : Type 0 where
   pub T₂ : List ℕ
   pub D₂ : List ℤ
   pub S₂ : List ℤ
+
+-- the seven, in the order in which they are lent
+abbrev pub store : List ℕ → List ℕ → List ℤ → List ℤ → List ℕ → List ℤ → List ℤ → Store
+store A T₁ D₁ S₁ T₂ D₂ S₂ = record { A = A; T₁ = T₁; D₁ = D₁; S₁ = S₁; T₂ = T₂; D₂ = D₂; S₂ = S₂ }
+
+-- what seven lent slices hold, at entry and at exit
+module _ (a t₁ : LentSlice ℕ) (d₁ s₁ : LentSlice ℤ) (t₂ : LentSlice ℕ) (d₂ s₂ : LentSlice ℤ) where
+  abbrev pub storeBefore : Store
+  storeBefore = store (a .entry .now) (t₁ .entry .now) (d₁ .entry .now) (s₁ .entry .now) (t₂ .entry .now) (d₂ .entry .now) (s₂ .entry .now)
+
+  abbrev pub storeAfter : Store
+  storeAfter = store (a .exit .now) (t₁ .exit .now) (d₁ .exit .now) (s₁ .exit .now) (t₂ .exit .now) (d₂ .exit .now) (s₂ .exit .now)
+
+-- a statement that holds whatever the lent matrices hold
+abbrev pub Whatever : (Store → Type 0) → Type 0
+Whatever P = (m : Store) → P m
+
+-- the same matrices with this A, with this accumulated node, with this new leaf
+abbrev pub withA : List ℕ → Store → Store
+withA A m = store A (m .T₁) (m .D₁) (m .S₁) (m .T₂) (m .D₂) (m .S₂)
+
+abbrev pub withFirst : Node → Store → Store
+withFirst z m = store (m .A) (z .instance .T) (z .instance .D) (z .witness) (m .T₂) (m .D₂) (m .S₂)
+
+abbrev pub withSecond : Node → Store → Store
+withSecond z m = store (m .A) (m .T₁) (m .D₁) (m .S₁) (z .instance .T) (z .instance .D) (z .witness)
+
+-- a leaf is the accumulated node where a further leaf is due after it, and the new leaf where a challenge is
+unfoldable pub withLeaf : Due → Node → Store → Store
+withLeaf Dues.Leaf z m = withFirst z m
+withLeaf Dues.Challenge z m = withSecond z m
+withLeaf Dues.Param z m = m
+withLeaf Dues.Matrix z m = m
+withLeaf Dues.First z m = m
+withLeaf Dues.Nothing z m = m
 
 -- A is the beginning of its slice
 abbrev pub partA : Parameters → List ℕ → List ℕ
@@ -56,44 +92,11 @@ stateOf r m = record { counts = countsOf r; stage = stageOf (r .due) (parameters
 abbrev pub stepOf : Taken → Store → List ℕ → Step
 stepOf t m out = record { state = stateOf (t .run) m; output = take (t .length) out }
 
--- a method that is lent no matrix comes to this step, whatever the matrices hold
-abbrev pub Comes : Taken → List ℕ → Step → Type 0
-Comes t out s = (m : Store) → stepOf t m out ≡ s
+-- what a line that is not too long comes to where this record is due
+abbrev pub lineDue : Due → Run → Store → List ℕ → Step
+lineDue due r m line = takeDue (countsOf r) (stageOf due (parametersOf (r .setting)) m) line
 
--- a method that is lent A alone comes to this step, whatever the others hold
-abbrev pub ComesA : Taken → List ℕ → List ℕ → Step → Type 0
-ComesA t A out s = (m : Store) → stepOf t (record { A = A; T₁ = m .T₁; D₁ = m .D₁; S₁ = m .S₁; T₂ = m .T₂; D₂ = m .D₂; S₂ = m .S₂ }) out ≡ s
-
--- what is due after a leaf: nothing where it was refused
-unfoldable pub afterLeaf : Due → Stage → Stage
-afterLeaf Dues.Param s = s
-afterLeaf Dues.Matrix s = s
-afterLeaf Dues.First s = s
-afterLeaf Dues.Leaf s = s
-afterLeaf Dues.Challenge s = s
-afterLeaf Dues.Nothing s = stopped
-
--- the leaf's method makes a node; what is due then depends on where it stands
-abbrev pub LeafComes : Taken → Parameters → List ℕ → List ℤ → List ℤ → List ℕ → ((Node → Stage) → Step) → Type 0
-LeafComes t p T D S out s = (after : Node → Stage) → step (countsOf (t .run)) (afterLeaf (t .run .due) (after (partNode p T D S))) (take (t .length) out) ≡ s after
-
--- after a leaf that is taken a further leaf or a challenge is due
-abbrev pub Awaits : Due → Type 0
-Awaits due = (due ≡ Dues.Leaf) ⊎ (due ≡ Dues.Challenge)
-
--- a leaf's method hands back what was asked to be due, with the same setting, or nothing
-abbrev pub Follows : Run → Due → Setting → Type 0
-Follows r due s = (r .due ≡ Dues.Nothing) ⊎ ((r .due ≡ due) × (r .setting ≡ s))
-
--- a line that is no record comes to this, whatever the matrices hold
-abbrev pub BadComes : Taken → Run → List ℕ → Type 0
-BadComes t r out = (m : Store) → stepOf t m out ≡ badLine (countsOf r) (stateOf r m .stage)
-
--- the end of the input prints this, whatever the new leaf's matrices hold
-abbrev pub Ends : ℕ → Run → List ℕ → List ℕ → List ℤ → List ℤ → List ℕ → List ℕ → Type 0
-Ends n r A T D S rest out = (T₂ : List ℕ) (D₂ S₂ : List ℤ) → take n out ≡ atEnd (stateOf r (record { A = A; T₁ = T; D₁ = D; S₁ = S; T₂ = T₂; D₂ = D₂; S₂ = S₂ })) rest
-
--- ---- what the methods ask for
+-- ---- what the methods ask for, and what they keep
 
 -- a setting as the constructor gives it, small enough for the program
 abbrev pub Set : Setting → Type 0
@@ -108,26 +111,37 @@ SetFor Dues.Leaf s = Set s
 SetFor Dues.Challenge s = Set s
 SetFor Dues.Nothing s = Unit {0}
 
+-- the first leaf is due, and a further one after it; or a further one, and a challenge after it
+abbrev pub LeafDue : Due → Due → Type 0
+LeafDue due after = ((due ≡ Dues.First) × (after ≡ Dues.Leaf)) ⊎ ((due ≡ Dues.Leaf) × (after ≡ Dues.Challenge))
+
 -- a run state as a run comes to it
 pub record Sound (r : Run) : Type 0 where
   pub leaves : r .leaves ≤ r .line
   pub folds : r .folds ≤ r .line
   pub set : SetFor (r .due) (r .setting)
 
--- the slices have room for the matrices of every setting that the program takes
+-- the slices of A and of a node have room for the matrices of every setting that the program takes
+abbrev pub LentNode : List ℕ → Node → Type 0
+LentNode A z = Fits (matrixA largest) A × Fits (matrixT largest) (z .instance .T) × Fits (matrixD largest) (z .instance .D) × Fits (matrixS largest) (z .witness)
+
+-- and so have those of all seven
 pub record Lent (m : Store) : Type 0 where
-  pub A : length (m .A) ≡ 128
-  pub T₁ : length (m .T₁) ≡ 16
-  pub D₁ : length (m .D₁) ≡ 4
-  pub S₁ : length (m .S₁) ≡ 32
-  pub T₂ : length (m .T₂) ≡ 16
-  pub D₂ : length (m .D₂) ≡ 4
-  pub S₂ : length (m .S₂) ≡ 32
+  pub A : Fits (matrixA largest) (m .A)
+  pub T₁ : Fits (matrixT largest) (m .T₁)
+  pub D₁ : Fits (matrixD largest) (m .D₁)
+  pub S₁ : Fits (matrixS largest) (m .S₁)
+  pub T₂ : Fits (matrixT largest) (m .T₂)
+  pub D₂ : Fits (matrixD largest) (m .D₂)
+  pub S₂ : Fits (matrixS largest) (m .S₂)
 
 -- the output buffer has room for the longest line
 abbrev pub Roomy : List ℕ → Type 0
 Roomy out = length out ≡ 512
 
--- a run that has taken no line
-abbrev pub Begun : Run → Type 0
-Begun r = (m : Store) → stateOf r m ≡ start
+-- a run that may take a line, and what it keeps when it has taken one
+abbrev pub Ready : Run → List ℕ → Type 0
+Ready r out = Sound r × (r .line < 2 ^ 62) × Roomy out
+
+abbrev pub Safe : Taken → Run → Type 0
+Safe t r = Sound (t .run) × (t .run .line ≤ r .line + 1) × (t .length ≤ 512)

@@ -1,11 +1,8 @@
-// The run state of the chain program: what is due and what was counted. It goes into each record's handling by value and is
-// handed back; the matrices stay in lent slices.
+// The run state of the chain program: what is due and what was counted. It goes into each record's handling by value
+// and is handed back; the matrices stay in lent slices.
 ghost use mathlib.Core.Path.{_≡_};
-ghost use Prim.Native.Nat.{_+_, _^_, _≤_, _<_};
-ghost use lib.ListN.{length};
-ghost use Rattle.chain.specs.Chain.{refuse};
-ghost use Rattle.states.specs.Lent.{Sound, Roomy, Begun, countsOf, Comes, BadComes};
-ghost use Rattle.states.specs.declared.Due.the-variants as Dues;
+ghost use Rattle.chain.specs.Chain.{start, refuse, badLine};
+ghost use Rattle.states.specs.Lent.{Whatever, stateOf, countsOf, stepOf, Sound, Ready, Safe};
 use settings::Setting;
 
 // The record that is due; nothing once a line was refused.
@@ -37,7 +34,7 @@ impl Run {
     // Before the first line.
     pub fn new() -> Run
         ensures { λ r. ⌜ Sound r ⌝ }
-        ensures { λ r. ⌜ Begun r ⌝ }
+        ensures { λ r. ⌜ Whatever (λ m. stateOf r m ≡ start) ⌝ }
     {
         let none = Setting::new(0, 0, 0, 0, 0);
         let setting = none.setting;
@@ -52,9 +49,9 @@ impl Run {
 
     // Refuses the next line with a number, and stops.
     pub fn refuse(self, number: u8, out: &mut [u8]) -> Taken
-        requires { ⌜ Sound self × (self .line < 2 ^ 62) × Roomy (now out) ⌝ }
-        ensures { λ r. ⌜ Comes r (now (out .exit)) (refuse (countsOf self) number) ⌝ }
-        ensures { λ r. ⌜ Sound (r .run) × (r .run .line ≤ self .line + 1) × (r .length ≤ 512) × (r .run .due ≡ Dues.Nothing) ⌝ }
+        requires { ⌜ Ready self (now out) ⌝ }
+        ensures { λ r. ⌜ Whatever (λ m. stepOf r m (now (out .exit)) ≡ refuse (countsOf self) number) ⌝ }
+        ensures { λ r. ⌜ Safe r self ⌝ }
     {
         let setting = self.setting;
         let length = closing_reports::put_refused(out, self.line + 1, number);
@@ -73,9 +70,11 @@ impl Run {
 
     // Refuses a line that is no record; a run that has stopped says nothing more.
     pub fn refuse_bad(self, out: &mut [u8]) -> Taken
-        requires { ⌜ Sound self × (self .line < 2 ^ 62) × Roomy (now out) ⌝ }
-        ensures { λ r. ⌜ BadComes r self (now (out .exit)) ⌝ }
-        ensures { λ r. ⌜ Sound (r .run) × (r .run .line ≤ self .line + 1) × (r .length ≤ 512) ⌝ }
+        requires { ⌜ Ready self (now out) ⌝ }
+        ensures { λ r. ⌜ Whatever (λ m.
+            stepOf r m (now (out .exit))
+            ≡ badLine (countsOf self) (stateOf self m .stage)) ⌝ }
+        ensures { λ r. ⌜ Safe r self ⌝ }
     {
         let due = self.due;
         match due {
@@ -83,11 +82,7 @@ impl Run {
                 run: self,
                 length: 0,
             },
-            Due::Param => self.refuse(13, out),
-            Due::Matrix => self.refuse(13, out),
-            Due::First => self.refuse(13, out),
-            Due::Leaf => self.refuse(13, out),
-            Due::Challenge => self.refuse(13, out),
+            _ => self.refuse(13, out),
         }
     }
 }

@@ -29,7 +29,9 @@ fn parse_ternary(field: &[u8]) -> Entry
 // Reads the ternary entries of a line that begins with the word: as many as `out` holds, and no more.
 // Where it answers false, what `out` holds is not stated.
 pub fn read_ternary(line: &[u8], word: &[u8], out: &mut [u8]) -> bool
-    ensures { λ r. ⌜ answerOf r (now (out .exit)) ≡ recordOf readTernary (now (word .entry)) (length (now (out .entry))) (now (line .entry)) ⌝ }
+    ensures { λ r. ⌜
+        answerOf r (now (out .exit))
+        ≡ recordOf readTernary (now (word .entry)) (length (now (out .entry))) (now (line .entry)) ⌝ }
 {
     if !text::begins(line, word) {
         return false;

@@ -23,21 +23,21 @@ module _ (s : Setting) (whole : Rebuilt s) (I₁ I₂ : Instance) (M : Message) 
   abbrev q : Parameters
   q = parametersOf s
 
-  -- what folding T~ and D~ asks: lengths, and that D~ is small
-  pub commitment-lengths : (length (M .T~) ≡ s .n * s .columns) × (length C ≡ s .columns * s .t) × (length (out .T) ≡ s .n * s .t)
-  commitment-lengths = let l = proper .lengths in let n = N-is s whole in (rw n (l .2 .1), rw n (l .3), l .4 .0)
-
   H-small : HOf q ≤ 2 ^ 31
   H-small = let acc = rebuilt-accepted s whole in omega (arith, acc .products-small, mul-le-mul-right (HOf q) (acc .N-low))
 
-  pub gram-asks : (length (M .D~) ≡ s .columns * s .columns) × ((k : ℕ) → natAbs (getD (M .D~) k (pos 0)) ≤ 2 ^ 31) × (s .columns ≤ 512) × (length C ≡ s .columns * s .t) × (length (out .D) ≡ s .t * s .t)
-  gram-asks =
+  -- what folding T~ and D~ asks: lengths, and that D~ is small
+  pub fold-asks : (length (M .T~) ≡ s .n * s .columns) × (length (M .D~) ≡ s .columns * s .columns) × ((k : ℕ) → natAbs (getD (M .D~) k (pos 0)) ≤ 2 ^ 31) × (s .columns ≤ 512) × (s .t ≤ 16) × (length C ≡ s .columns * s .t) × (length (out .T) ≡ s .n * s .t) × (length (out .D) ≡ s .t * s .t)
+  fold-asks =
       let l = proper .lengths in
       let n = N-is s whole in (
+        rw n (l .2 .1),
         rw n (l .2 .2),
         (λ k. le-trans (bounded-everywhere (NOf q) (NOf q) (HOf q) (M .D~) (l .2 .2) (proper .entries) k) H-small),
         N-high s whole,
+        rebuilt-accepted s whole .t-high,
         rw n (l .3),
+        l .4 .0,
         l .4 .1,
       )
 

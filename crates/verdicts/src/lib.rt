@@ -4,6 +4,7 @@ ghost use mathlib.Core.Bool.{_&&_};
 ghost use Rattle.settings.specs.Rules.{firstOf};
 ghost use Rattle.settings.specs.Settings.{parametersOf};
 ghost use Rattle.lova.specs.Answers.{ends, verdictOf};
+ghost use Rattle.lova.specs.Lent.{instanceBefore, instanceAfter, messageBefore};
 ghost use Rattle.lova.specs.Tests.{fitsInstance, fitsMessage, fitsC};
 ghost use Rattle.lova.specs.Calls.{Rebuilt};
 ghost use Rattle.lova.specs.Verdict.{verdictRules, verdict};
@@ -25,7 +26,12 @@ fn lengths_fit(
     d: &[i64],
 ) -> bool
     requires { ⌜ Rebuilt setting ⌝ }
-    ensures { λ r. ⌜ r ≡ (fitsInstance (parametersOf setting) (record { T = now (t1 .entry); D = now (d1 .entry) }) && fitsInstance (parametersOf setting) (record { T = now (t2 .entry); D = now (d2 .entry) }) && fitsMessage (parametersOf setting) (record { «V» = now (v .entry); T~ = now (tt .entry); D~ = now (dd .entry) }) && fitsC (parametersOf setting) (now (c .entry)) && fitsInstance (parametersOf setting) (record { T = now (t .entry); D = now (d .entry) })) ⌝ }
+    ensures { λ r. ⌜ r
+        ≡ (fitsInstance (parametersOf setting) (instanceBefore t1 d1)
+        && fitsInstance (parametersOf setting) (instanceBefore t2 d2)
+        && fitsMessage (parametersOf setting) (messageBefore v tt dd)
+        && fitsC (parametersOf setting) (now (c .entry))
+        && fitsInstance (parametersOf setting) (instanceBefore t d)) ⌝ }
 {
     if !scans::instance_fits(setting, t1, d1) {
         return false;
@@ -42,7 +48,8 @@ fn lengths_fit(
     scans::instance_fits(setting, t, d)
 }
 
-// 7 where a slice has not the length of its matrix, 9 where a byte of c is above 2, 10 where an entry of dd is above H in size, else 0.
+// 7 where a slice has not the length of its matrix, 9 where a byte of c is above 2, 10 where an entry of dd is above H
+// in size, else 0.
 fn verdict_refusal(
     setting: Setting,
     t1: &[u64],
@@ -57,7 +64,9 @@ fn verdict_refusal(
     d: &[i64],
 ) -> u8
     requires { ⌜ Rebuilt setting ⌝ }
-    ensures { λ r. ⌜ r ≡ firstOf (verdictRules (parametersOf setting) (record { T = now (t1 .entry); D = now (d1 .entry) }) (record { T = now (t2 .entry); D = now (d2 .entry) }) (record { «V» = now (v .entry); T~ = now (tt .entry); D~ = now (dd .entry) }) (now (c .entry)) (record { T = now (t .entry); D = now (d .entry) })) ⌝ }
+    ensures { λ r. ⌜ r
+        ≡ firstOf (verdictRules (parametersOf setting) (instanceBefore t1 d1) (instanceBefore t2 d2)
+        (messageBefore v tt dd) (now (c .entry)) (instanceBefore t d)) ⌝ }
 {
     if !lengths_fit(setting, t1, d1, t2, d2, v, tt, dd, c, t, d) {
         return 7;
@@ -91,9 +100,11 @@ pub fn verify(
     t: &mut [u64],
     d: &mut [i64],
 ) -> Verdict
-    ensures { λ r. ⌜ ends (verdictOf r) (record { T = now (t .exit); D = now (d .exit) }) ≡ verdict (parametersOf setting) (record { T = now (t1 .entry); D = now (d1 .entry) }) (record { T = now (t2 .entry); D = now (d2 .entry) }) (record { «V» = now (v .entry); T~ = now (tt .entry); D~ = now (dd .entry) }) (now (c .entry)) (record { T = now (t .entry); D = now (d .entry) }) ⌝ }
+    ensures { λ r. ⌜ ends (verdictOf r) (instanceAfter t d)
+        ≡ verdict (parametersOf setting) (instanceBefore t1 d1) (instanceBefore t2 d2)
+        (messageBefore v tt dd) (now (c .entry)) (instanceBefore t d) ⌝ }
 {
-    let fresh = Setting::new(setting.n, setting.m, setting.t, setting.b, setting.bound);
+    let fresh = setting.rebuilt();
     let number = fresh.refusal;
     if number != 0 {
         return Verdict::Refused(number);
@@ -109,7 +120,6 @@ pub fn verify(
     if !equations::commitment_holds(accepted, t1, t2, tt) {
         return Verdict::Commitment;
     }
-    word_folds::fold_commitment(tt, c, accepted.n, accepted.columns, accepted.t, t);
-    fold_gram::fold_gram(dd, c, accepted.columns, accepted.t, d);
+    challenge_folds::fold_instance(tt, dd, c, accepted.n, accepted.columns, accepted.t, t, d);
     Verdict::Yes
 }

@@ -1,1 +1,1 @@
-pub mod Folding
+pub mod Kernel

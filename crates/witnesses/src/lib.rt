@@ -14,7 +14,9 @@ use settings::Setting;
 // Whether the slices have the lengths of their matrices.
 fn witness_lengths(setting: Setting, ss: &[i64], c: &[u8], s: &[i64]) -> bool
     requires { ⌜ Rebuilt setting ⌝ }
-    ensures { λ r. ⌜ r ≡ (fits (matrixS~ (parametersOf setting)) (now (ss .entry)) && fitsC (parametersOf setting) (now (c .entry)) && fits (matrixS (parametersOf setting)) (now (s .entry))) ⌝ }
+    ensures { λ r. ⌜ r
+        ≡ (fits (matrixS~ (parametersOf setting)) (now (ss .entry)) && fitsC (parametersOf setting) (now (c .entry))
+        && fits (matrixS (parametersOf setting)) (now (s .entry))) ⌝ }
 {
     let wide = setting.columns;
     let inputs = scans::both(ss.len() == setting.m * wide, c.len() == wide * setting.t);
@@ -24,7 +26,8 @@ fn witness_lengths(setting: Setting, ss: &[i64], c: &[u8], s: &[i64]) -> bool
 // The first of 7, 9 and 11 that applies, or 0.
 fn witness_refusal(setting: Setting, ss: &[i64], c: &[u8], s: &[i64]) -> u8
     requires { ⌜ Rebuilt setting ⌝ }
-    ensures { λ r. ⌜ r ≡ firstOf (witnessRules (parametersOf setting) (now (ss .entry)) (now (c .entry)) (now (s .entry))) ⌝ }
+    ensures { λ r. ⌜ r
+        ≡ firstOf (witnessRules (parametersOf setting) (now (ss .entry)) (now (c .entry)) (now (s .entry))) ⌝ }
 {
     if !witness_lengths(setting, ss, c, s) {
         return 7;
@@ -40,9 +43,10 @@ fn witness_refusal(setting: Setting, ss: &[i64], c: &[u8], s: &[i64]) -> u8
 
 // Writes s = S' = S~ C for the digit witness ss = S~ and the challenge c.
 pub fn fold_witness(setting: Setting, ss: &[i64], c: &[u8], s: &mut [i64]) -> Answer
-    ensures { λ r. ⌜ ends (answerOf r) (now (s .exit)) ≡ witness (parametersOf setting) (now (ss .entry)) (now (c .entry)) (now (s .entry)) ⌝ }
+    ensures { λ r. ⌜ ends (answerOf r) (now (s .exit))
+        ≡ witness (parametersOf setting) (now (ss .entry)) (now (c .entry)) (now (s .entry)) ⌝ }
 {
-    let fresh = Setting::new(setting.n, setting.m, setting.t, setting.b, setting.bound);
+    let fresh = setting.rebuilt();
     let number = fresh.refusal;
     if number != 0 {
         return Answer::Refused(number);
@@ -52,6 +56,6 @@ pub fn fold_witness(setting: Setting, ss: &[i64], c: &[u8], s: &mut [i64]) -> An
     if own != 0 {
         return Answer::Refused(own);
     }
-    small_fold::small_fold(ss, c, accepted.m, accepted.columns, accepted.t, s);
+    challenge_folds::fold_digits(ss, c, accepted.m, accepted.columns, accepted.t, s);
     Answer::Done
 }

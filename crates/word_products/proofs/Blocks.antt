@@ -1,10 +1,10 @@
 -- A table whose rows are written anew one after the other, and what a block of rows of the second factor adds to a row.
-use mathlib.Core.Path.{_≡_, refl, sym, _∙_, ap}
+use mathlib.Core.Path.{_≡_, refl, sym, _∙_, ap, ap₂}
 use mathlib.Core.List.{List, _++_}
 use Prim.Native.Nat.{ℕ, _+_, _*_, _-_, _<_, _≤_}
 use native.Mathlib.Omega.{arith}
 use native.Mathlib.Nat.{zero-mul, add-mul, one-mul}
-use lib.IntN.{ℤ, pos, _+ℤ_}
+use lib.IntN.{ℤ, pos, _+ℤ_, _*ℤ_, +ℤ-idl}
 use lib.ListN.{length, getD, take, drop, length-take, length-drop}
 use lib.Seq.{getD-take, getD-drop}
 use Rattle.integers.specs.Lists.{build}
@@ -14,8 +14,10 @@ use Rattle.integers.proofs.Lists.{length-build, is-build, part-after}
 use Rattle.matrices.specs.Matrices.{Matrix, product}
 use Rattle.matrices.specs.Tables.{table, unsigned, signed}
 use Rattle.matrices.proofs.Tables.{row-within, length-table, entry-table, TableTo, table-none, table-part}
-use Rattle.word_rows.specs.Rows.{rowTimes, Added}
-use Rattle.word_rows.proofs.Rows.{added-on, times-block}
+use Rattle.matrices.specs.Elements.{modulo, Added}
+use Rattle.matrices.proofs.Elements.{modulo-sums, added-on}
+use Rattle.word_rows.specs.Rows.{rowTimes}
+use Rattle.word_rows.proofs.Rows.{times-block, times-more}
 
 -- the first i rows of `after` are those of F, and the others are those of `before`
 pub record Renewed {A : Type 0} (d : A) (rows cols : ℕ) (F : ℕ → ℕ → A) (before after : List A) (i : ℕ) : Type 0 where
@@ -58,10 +60,57 @@ module _ (n m cols base len i : ℕ) (a : List ℕ) (s : List ℤ) (sized : leng
   words-long = simp (length-take, length-drop) (omega (arith, row-within n m i h))
 
   pub block-row : (before after : List ℕ) → before ≡ build cols (λ j. word (product base (unsigned m a) (signed cols s) i j))
-      → Added (rowTimes (length words) words (signed cols block)) 0 before after
+      → Added modulo (rowTimes (length words) words (signed cols block)) 0 (length before) before after
       → after ≡ build cols (λ j. word (product (base + len) (unsigned m a) (signed cols s) i j))
-  block-row before after e w = added-on cols _ _ _ before after e w (λ j l. times-block (λ z. z) (pos 0) cols a s base j l m i len
+  block-row before after e w = added-on modulo modulo-sums cols (length before) _ _ _ before after (ap length e ∙ length-build cols _) e w (λ j l. times-block (λ z. z) (pos 0) cols a s base j l m i len
       ∙ ap (λ (p : ℕ). product base (unsigned m a) (signed cols s) i j +ℤ rowTimes p words (signed cols block) j) (sym words-long))
+
+-- the row x times s, where x has a word: the products of the first row of s, which are written into a row, and those of the others,
+-- which are added to it, all lent as parts
+module _ (cols : ℕ) (x : List ℕ) (s : List ℤ) (sized : length s ≡ length x * cols) (some : 0 < length x) where
+  abbrev others : List ℕ
+  others = take (length x - 1) (drop 1 x)
+
+  abbrev otherRows : List ℤ
+  otherRows = take (length s - cols) (drop cols s)
+
+  pub first-within : cols ≤ length s
+  first-within = omega (arith, row-within (length x) cols 0 some, zero-mul cols, sized)
+
+  others-long : length others ≡ length x - 1
+  others-long = simp (length-take, length-drop) (omega arith)
+
+  others-size : (length x - 1) * cols ≡ length s - cols
+  others-size =
+      let e : length x ≡ 1 + (length x - 1) = omega arith in
+      omega (arith, sized, ap (λ (p : ℕ). p * cols) e, add-mul 1 (length x - 1) cols, one-mul cols)
+
+  pub others-fit : length otherRows ≡ length others * cols
+  others-fit = simp (length-take, length-drop) (omega arith) ∙ sym others-size ∙ ap (λ (p : ℕ). p * cols) (sym others-long)
+
+  first-alone : (j : ℕ) → j < cols → rowTimes 1 x (signed cols s) j ≡ pos (getD x 0 0) *ℤ getD (take cols s) j (pos 0)
+  unfolding sum
+  first-alone j h =
+      let none : 0 * cols + j ≡ j = omega (arith, zero-mul cols) in
+      +ℤ-idl _ ∙ ap (λ (z : ℤ). pos (getD x 0 0) *ℤ z) (ap (λ (n : ℕ). getD s n (pos 0)) none ∙ sym (getD-take cols s j (pos 0) h))
+
+  first-and-others : (j : ℕ) → j < cols → rowTimes (length x) x (signed cols s) j
+      ≡ pos (getD x 0 0) *ℤ getD (take cols s) j (pos 0) +ℤ rowTimes (length others) others (signed cols otherRows) j
+  first-and-others j h =
+      let p = length x - 1 in
+      let all : length x ≡ 1 + p = omega arith in
+      let words : 1 + p - 1 ≡ p = omega arith in
+      let rows : cols + p * cols - cols ≡ length s - cols = omega (arith, others-size) in
+      ap (λ (k : ℕ). rowTimes k x (signed cols s) j) all
+      ∙ times-more (λ z. z) (pos 0) cols x s 1 j h p cols (sym (one-mul cols))
+      ∙ ap₂ _+ℤ_ (first-alone j h)
+      (ap₂ (λ (k b : ℕ). rowTimes p (take k (drop 1 x)) (signed cols (take b (drop cols s))) j) words rows
+      ∙ ap (λ (k : ℕ). rowTimes k others (signed cols otherRows) j) (sym others-long))
+
+  pub first-row : (before after : List ℕ) → before ≡ build cols (λ j. word (pos (getD x 0 0) *ℤ getD (take cols s) j (pos 0)))
+      → Added modulo (rowTimes (length others) others (signed cols otherRows)) 0 (length before) before after
+      → after ≡ build cols (λ j. word (rowTimes (length x) x (signed cols s) j))
+  first-row before after e w = added-on modulo modulo-sums cols (length before) _ _ _ before after (ap length e ∙ length-build cols _) e w first-and-others
 
 -- a list of zeros is the table of a product of no columns and rows
 pub product-none : (rows cols : ℕ) (X Y : Matrix) → build (rows * cols) (λ x. 0) ≡ table rows cols (λ i j. word (product 0 X Y i j))

@@ -2,18 +2,22 @@
 ghost use mathlib.Core.Path.{_≡_};
 ghost use Prim.Native.Nat.{_+_, _*_, _<_, _≤_};
 ghost use lib.ListN.{length};
+ghost use Rattle.integers.specs.Lists.{build};
 ghost use Rattle.integers.specs.Residues.{word};
 ghost use Rattle.matrices.specs.Matrices.{product};
-ghost use Rattle.matrices.specs.Tables.{table, signed, unsigned};
-ghost use Rattle.word_rows.specs.Rows.{rowTimes, Added};
+ghost use Rattle.matrices.specs.Tables.{residues, signed, unsigned};
+ghost use Rattle.matrices.specs.Elements.{modulo, Added};
+ghost use Rattle.word_rows.specs.Rows.{rowTimes};
 
 mod multiples;
 
-// Adds the row x times s to `row`, four rows of s a pass while four are left, and answers how many rows it took. A loop that
-// chose between four rows and one in every pass would be slower.
+// Adds the row x times s to `row`, four rows of s a pass while four are left, and answers how many rows it took. A loop
+// that chose between four rows and one in every pass would be slower.
 fn add_fours(x: &[u64], s: &[i64], cols: usize, row: &mut [u64]) -> usize
     requires { ⌜ (length (now s) ≡ length (now x) * cols) × (length (now row) ≡ cols) ⌝ }
-    ensures { λ r. ⌜ (r ≤ length (now (x .entry))) × Added (rowTimes r (now (x .entry)) (signed cols (now (s .entry)))) 0 (now (row .entry)) (now (row .exit)) ⌝ }
+    ensures { λ r. ⌜ (r ≤ length (now (x .entry)))
+        × Added modulo (rowTimes r (now (x .entry)) (signed cols (now (s .entry)))) 0 (length (now (row .entry)))
+        (now (row .entry)) (now (row .exit)) ⌝ }
 {
     let mut k: usize = 0;
     let mut start: usize = 0;
@@ -29,7 +33,9 @@ fn add_fours(x: &[u64], s: &[i64], cols: usize, row: &mut [u64]) -> usize
 // Adds the row x times s to `row`: fours first, and the last rows one by one.
 fn add_rows(x: &[u64], s: &[i64], cols: usize, row: &mut [u64])
     requires { ⌜ (length (now s) ≡ length (now x) * cols) × (length (now row) ≡ cols) ⌝ }
-    ensures { λ _. ⌜ Added (rowTimes (length (now (x .entry))) (now (x .entry)) (signed cols (now (s .entry)))) 0 (now (row .entry)) (now (row .exit)) ⌝ }
+    ensures { λ _. ⌜ Added modulo
+        (rowTimes (length (now (x .entry))) (now (x .entry)) (signed cols (now (s .entry)))) 0
+        (length (now (row .entry))) (now (row .entry)) (now (row .exit)) ⌝ }
 {
     let mut k = add_fours(x, s, cols, row);
     while k < x.len() {
@@ -40,8 +46,21 @@ fn add_rows(x: &[u64], s: &[i64], cols: usize, row: &mut [u64])
     }
 }
 
-// Takes `out` from the product of the first `base` columns of a and rows of s to that of the first base + len. Every row of a
-// meets the same `len` rows of s, so that these stay in the cache.
+// Writes the row x, of at least one word, times s into `row`: the products of the first row of s are written, and those
+// of the others are added.
+fn write_rows(x: &[u64], s: &[i64], cols: usize, row: &mut [u64])
+    requires { ⌜ (length (now s) ≡ length (now x) * cols) × (length (now row) ≡ cols)
+        × (0 < length (now x)) ⌝ }
+    ensures { λ _. ⌜ now (row .exit)
+        ≡ build cols
+        (λ j. word (rowTimes (length (now (x .entry))) (now (x .entry)) (signed cols (now (s .entry))) j)) ⌝ }
+{
+    multiples::write_row(x[0], &s[..cols], row);
+    add_rows(&x[1..], &s[cols..], cols, row);
+}
+
+// Takes `out` from the product of the first `base` columns of a and rows of s to that of the first base + len. Every
+// row of a meets the same `len` rows of s, so that these stay in the cache.
 fn add_block(
     a: &[u64],
     s: &[i64],
@@ -53,8 +72,9 @@ fn add_block(
     out: &mut [u64],
 )
     requires { ⌜ (length (now a) ≡ n * m) × (length (now s) ≡ m * cols) × (base + len ≤ m) ⌝ }
-    requires { ⌜ now out ≡ table n cols (λ i j. word (product base (unsigned m (now a)) (signed cols (now s)) i j)) ⌝ }
-    ensures { λ _. ⌜ now (out .exit) ≡ table n cols (λ i j. word (product (base + len) (unsigned m (now (a .entry))) (signed cols (now (s .entry))) i j)) ⌝ }
+    requires { ⌜ now out ≡ residues n cols (product base (unsigned m (now a)) (signed cols (now s))) ⌝ }
+    ensures { λ _. ⌜ now (out .exit)
+        ≡ residues n cols (product (base + len) (unsigned m (now (a .entry))) (signed cols (now (s .entry)))) ⌝ }
 {
     let top = base * cols;
     let bottom = top + len * cols;
@@ -80,7 +100,8 @@ fn block_length(left: usize) -> usize
 // a times s, block by block of the rows of s.
 fn commit_wide(a: &[u64], s: &[i64], n: usize, m: usize, cols: usize, out: &mut [u64])
     requires { ⌜ (length (now a) ≡ n * m) × (length (now s) ≡ m * cols) × (length (now out) ≡ n * cols) ⌝ }
-    ensures { λ _. ⌜ now (out .exit) ≡ table n cols (λ i j. word (product m (unsigned m (now (a .entry))) (signed cols (now (s .entry))) i j)) ⌝ }
+    ensures { λ _. ⌜ now (out .exit)
+        ≡ residues n cols (product m (unsigned m (now (a .entry))) (signed cols (now (s .entry)))) ⌝ }
 {
     word_rows::clear_row(out);
     let mut base: usize = 0;
@@ -91,8 +112,26 @@ fn commit_wide(a: &[u64], s: &[i64], n: usize, m: usize, cols: usize, out: &mut 
     }
 }
 
-// The row x, of m words, times column j of s. Its entries are found by adding: k * cols + j would be a multiplication more
-// for each product.
+// a times s, row by row, where s has at least one row: nothing has to be cleared before.
+fn commit_few(a: &[u64], s: &[i64], n: usize, m: usize, cols: usize, out: &mut [u64])
+    requires { ⌜ (length (now a) ≡ n * m) × (length (now s) ≡ m * cols) × (length (now out) ≡ n * cols)
+        × (0 < m) ⌝ }
+    ensures { λ _. ⌜ now (out .exit)
+        ≡ residues n cols (product m (unsigned m (now (a .entry))) (signed cols (now (s .entry)))) ⌝ }
+{
+    let mut i: usize = 0;
+    while i < n {
+        let from = i * m;
+        let to = from + m;
+        let start = i * cols;
+        let end = start + cols;
+        write_rows(&a[from..to], s, cols, &mut out[start..end]);
+        i += 1;
+    }
+}
+
+// The row x, of m words, times column j of s. Its entries are found by adding: k * cols + j would be a multiplication
+// more for each product.
 fn times_column(x: &[u64], s: &[i64], m: usize, cols: usize, j: usize) -> u64
     requires { ⌜ (length (now x) ≡ m) × (length (now s) ≡ m * cols) × (j < cols) ⌝ }
     ensures { λ r. ⌜ r ≡ word (rowTimes m (now (x .entry)) (signed cols (now (s .entry))) j) ⌝ }
@@ -101,7 +140,7 @@ fn times_column(x: &[u64], s: &[i64], m: usize, cols: usize, j: usize) -> u64
     let mut at = j;
     let mut k: usize = 0;
     while k < m {
-        sum = multiples::add_product(sum, x[k], s[at]);
+        sum = matrices::add_signed_product(sum, x[k], s[at]);
         at += cols;
         k += 1;
     }
@@ -111,7 +150,8 @@ fn times_column(x: &[u64], s: &[i64], m: usize, cols: usize, j: usize) -> u64
 // a times s, entry by entry: each sum is stored once.
 fn commit_narrow(a: &[u64], s: &[i64], n: usize, m: usize, cols: usize, out: &mut [u64])
     requires { ⌜ (length (now a) ≡ n * m) × (length (now s) ≡ m * cols) × (length (now out) ≡ n * cols) ⌝ }
-    ensures { λ _. ⌜ now (out .exit) ≡ table n cols (λ i j. word (product m (unsigned m (now (a .entry))) (signed cols (now (s .entry))) i j)) ⌝ }
+    ensures { λ _. ⌜ now (out .exit)
+        ≡ residues n cols (product m (unsigned m (now (a .entry))) (signed cols (now (s .entry)))) ⌝ }
 {
     let end = n * cols;
     let mut e: usize = 0;
@@ -123,14 +163,18 @@ fn commit_narrow(a: &[u64], s: &[i64], n: usize, m: usize, cols: usize, out: &mu
     }
 }
 
-// a times s modulo 2^64, as T~ is A S~: a has n rows and m columns, s has m rows and `cols` columns. With fewer than four
-// columns a product of the blocks waits for the sum that the one before it stored in the same word; in a short sum the
-// division that finds an entry's place would cost as much.
+// a times s modulo 2^64, as T~ is A S~: a has n rows and m columns, s has m rows and `cols` columns. With fewer than
+// four columns a product of the blocks waits for the sum that the one before it stored in the same word; in a short sum
+// the division that finds an entry's place would cost as much. With one to three rows of s, clearing `out` would cost
+// as much as adding a row.
 pub fn commitment(a: &[u64], s: &[i64], n: usize, m: usize, cols: usize, out: &mut [u64])
     requires { ⌜ (length (now a) ≡ n * m) × (length (now s) ≡ m * cols) × (length (now out) ≡ n * cols) ⌝ }
-    ensures { λ _. ⌜ now (out .exit) ≡ table n cols (λ i j. word (product m (unsigned m (now (a .entry))) (signed cols (now (s .entry))) i j)) ⌝ }
+    ensures { λ _. ⌜ now (out .exit)
+        ≡ residues n cols (product m (unsigned m (now (a .entry))) (signed cols (now (s .entry)))) ⌝ }
 {
-    if cols < 4 && 64 <= m {
+    if 0 < m && m < 4 {
+        commit_few(a, s, n, m, cols, out);
+    } else if cols < 4 && 64 <= m {
         commit_narrow(a, s, n, m, cols, out);
     } else {
         commit_wide(a, s, n, m, cols, out);

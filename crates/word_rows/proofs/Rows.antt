@@ -1,107 +1,42 @@
--- Rows of words while a product is summed in them.
+-- A row of words times a matrix, by the rows of the matrix.
 use mathlib.Core.Path.{_≡_, refl, sym, _∙_, ap, ap₂}
-use mathlib.Core.Logic.{⊎-elim}
 use mathlib.Core.List.{List, [], _∷_}
-use Prim.Native.Nat.{ℕ, _+_, _*_, _-_, _^_, _<_, _≤_}
+use Prim.Native.Nat.{ℕ, _+_, _*_, _-_, _^_, _<_}
 use native.Mathlib.Omega.{arith}
 use native.Mathlib.Nat.{zero-mul, one-mul, add-mul}
 use lib.Arith.{digits-lt}
-use lib.ListN.{length, getD, set, take, drop, length-set}
-use lib.Seq.{getD-set-same, getD-set-other, getD-take, getD-drop}
-use lib.IntN.{ℤ, pos, _+ℤ_, _*ℤ_, +ℤ-assoc, +ℤ-idl, +ℤ-idr}
+use lib.ListN.{getD, take, drop}
+use lib.Seq.{getD-take, getD-drop}
+use lib.IntN.{ℤ, pos, _+ℤ_, _*ℤ_, +ℤ-idl, +ℤ-idr}
 use mir.Syntax.{w64}
 use mir.Val.{SFits, toZ, ofZ}
 use mir.ValLaws.{toZ-ofZ}
 use Rattle.integers.specs.Lists.{build}
 use Rattle.integers.specs.Sums.{sum}
 use Rattle.integers.specs.Residues.{residue, word}
-use Rattle.integers.proofs.Tests.{le-or-lt}
-use Rattle.integers.proofs.Lists.{length-build, getD-build, is-build, build-cong}
+use Rattle.integers.proofs.Lists.{build-cong}
 use Rattle.integers.proofs.Sums.{sum-cong, sum-step, sum-split}
-use Rattle.integers.proofs.Residues.{residue-small, word-on}
+use Rattle.integers.proofs.Residues.{residue-small}
 use Rattle.matrices.specs.Matrices.{Matrix, product}
 use Rattle.matrices.specs.Tables.{entries, unsigned, signed}
-use Rattle.word_rows.specs.Rows.{rowTimes, Added}
-
-module _ (f : ℕ → ℤ) (before : List ℕ) where
-  -- before the last word
-  pub added-none : (n : ℕ) → length before ≡ n → Added f n before before
-  added-none n e = record { within = omega arith; long = refl; done = λ j h l. absurd (omega arith); rest = λ j h. refl }
-
-  -- one word more
-  pub added-more : (n : ℕ) (after : List ℕ) (v : ℕ) → 0 < n → v ≡ word (pos (getD after (n - 1) 0) +ℤ f (n - 1)) → Added f n before after
-      → Added f (n - 1) before (set after (n - 1) v)
-  added-more n after v h e w = record {
-    within = omega (arith, w .within);
-    long = length-set after (n - 1) v ∙ w .long;
-    done = λ j l m. ⊎-elim
-        (λ (k : n ≤ j). getD-set-other after (n - 1) j v 0 (λ q. omega arith) ∙ w .done j k m)
-        (λ (k : j < n). let q : j ≡ n - 1 = omega arith in rw q (
-        getD-set-same after (n - 1) v 0 (omega (arith, w .within, w .long)) ∙ e ∙ ap (λ (y : ℕ). word (pos y +ℤ f (n - 1))) (w .rest (n - 1) (omega arith))))
-        (le-or-lt n j);
-    rest = λ j l. getD-set-other after (n - 1) j v 0 (λ q. omega arith) ∙ w .rest j (omega arith);
-  }
-
-  -- all of them
-  pub added-all : (n : ℕ) (after : List ℕ) → n ≤ 0 → Added f n before after → Added f 0 before after
-  added-all n after h w = let e : n ≡ 0 = omega arith in rw e at w
-
--- a row that held g modulo 2^64 holds h once f is added, where h is g + f
-pub added-on : (n : ℕ) (g f h : ℕ → ℤ) (before after : List ℕ) → before ≡ build n (λ j. word (g j)) → Added f 0 before after
-    → ((j : ℕ) → j < n → h j ≡ g j +ℤ f j) → after ≡ build n (λ j. word (h j))
-added-on n g f h before after e w k = is-build n (λ j. word (h j)) 0 after (w .long ∙ size)
-    (λ j l. w .done j (omega arith) (omega (arith, size))
-    ∙ ap (λ (y : ℕ). word (pos y +ℤ f j)) (ap (λ (xs : List ℕ). getD xs j 0) e ∙ getD-build n (λ j. word (g j)) j 0 l)
-    ∙ word-on (g j) (f j) ∙ ap word (sym (k j l)))
-  where
-    size : length before ≡ n
-    size = ap length e ∙ length-build n (λ j. word (g j))
-
--- nothing is added where f is 0
-pub added-nothing : (f : ℕ → ℤ) (row : List ℕ) → ((j : ℕ) → getD row j 0 < 2 ^ 64) → ((j : ℕ) → f j ≡ pos 0) → Added f 0 row row
-added-nothing f row small none = record {
-  within = omega arith;
-  long = refl;
-  done = λ j h l. sym (ap (λ (z : ℤ). word (pos (getD row j 0) +ℤ z)) (none j) ∙ ap word (+ℤ-idr (pos (getD row j 0))) ∙ residue-small (2 ^ 64) (getD row j 0) (small j));
-  rest = λ j h. refl;
-}
-
--- f is added, and g to what that left: h, which is f + g, is added
-pub added-both : (f g h : ℕ → ℤ) (first second third : List ℕ) → Added f 0 first second → Added g 0 second third
-    → ((j : ℕ) → j < length first → h j ≡ f j +ℤ g j) → Added h 0 first third
-added-both f g h first second third v w k = record {
-  within = omega arith;
-  long = w .long ∙ v .long;
-  done = λ j l m. w .done j l (omega (arith, v .long))
-      ∙ ap (λ (y : ℕ). word (pos y +ℤ g j)) (v .done j l m)
-      ∙ word-on (pos (getD first j 0) +ℤ f j) (g j)
-      ∙ ap word (+ℤ-assoc (pos (getD first j 0)) (f j) (g j) ∙ ap (λ (z : ℤ). pos (getD first j 0) +ℤ z) (sym (k j m)));
-  rest = λ j l. w .rest j l ∙ v .rest j l;
-}
+use Rattle.matrices.specs.Elements.{modulo}
+use Rattle.matrices.proofs.Elements.{modulo-sums, next-on}
+use Rattle.word_rows.specs.Rows.{rowTimes}
 
 -- x y added to b by the machine, where the signed word y is read from a list
 pub read-on : (b x : ℕ) (y : ℤ) {r : ℕ} → SFits w64 y → r ≡ word (pos b +ℤ pos x *ℤ toZ w64 (ofZ w64 y)) → r ≡ word (pos b +ℤ pos x *ℤ y)
 read-on b x y f e = e ∙ ap (λ (z : ℤ). word (pos b +ℤ pos x *ℤ z)) (toZ-ofZ w64 y f)
 
--- y is added to a word that holds x
-held-on : (x y : ℤ) {p q : ℕ} → p ≡ word x → q ≡ word (pos p +ℤ y) → q ≡ word (x +ℤ y)
-held-on x y e h = h ∙ ap (λ (n : ℕ). word (pos n +ℤ y)) e ∙ word-on x y
-
--- one term more is added to a word that holds a sum
-pub sum-on : (n : ℕ) (f : ℕ → ℤ) {p q : ℕ} → p ≡ word (sum n f) → q ≡ word (pos p +ℤ f n) → q ≡ word (sum (n + 1) f)
-sum-on n f e h = held-on (sum n f) (f n) e h ∙ ap word (sym (sum-step n f))
+-- 0 added to a word
+pub nothing-on : (x : ℕ) (z : ℤ) → x < 2 ^ 64 → z ≡ pos 0 → word (pos x +ℤ z) ≡ x
+nothing-on x z small none = ap (λ (y : ℤ). word (pos x +ℤ y)) none ∙ ap word (+ℤ-idr (pos x)) ∙ residue-small (2 ^ 64) x small
 
 -- four products, added to b one after the other
 module _ (b : ℕ) (f : ℕ → ℤ) where
-  next-on : (n : ℕ) {p q : ℕ} → p ≡ word (pos b +ℤ sum n f) → q ≡ word (pos p +ℤ f n) → q ≡ word (pos b +ℤ sum (n + 1) f)
-  next-on n e h =
-      held-on (pos b +ℤ sum n f) (f n) e h
-      ∙ ap word (+ℤ-assoc (pos b) (sum n f) (f n) ∙ ap (λ (z : ℤ). pos b +ℤ z) (sym (sum-step n f)))
-
   four-on : {p q r s : ℕ} → p ≡ word (pos b +ℤ f 0) → q ≡ word (pos p +ℤ f 1) → r ≡ word (pos q +ℤ f 2) → s ≡ word (pos r +ℤ f 3)
       → s ≡ word (pos b +ℤ sum 4 f)
   unfolding sum
-  four-on e₀ e₁ e₂ e₃ = next-on 3 (next-on 2 (next-on 1 (e₀ ∙ ap (λ (z : ℤ). word (pos b +ℤ z)) (sym (+ℤ-idl (f 0)))) e₁) e₂) e₃
+  four-on e₀ e₁ e₂ e₃ = next-on modulo modulo-sums (pos b) 3 f (next-on modulo modulo-sums (pos b) 2 f (next-on modulo modulo-sums (pos b) 1 f (e₀ ∙ ap (λ (z : ℤ). word (pos b +ℤ z)) (sym (+ℤ-idl (f 0)))) e₁) e₂) e₃
 
 -- a row of zeros holds the product of no words
 pub times-none : (n : ℕ) (x : List ℕ) (Y : Matrix) → build n (λ j. 0) ≡ build n (λ j. word (rowTimes 0 x Y j))

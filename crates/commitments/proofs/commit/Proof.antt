@@ -29,28 +29,28 @@ module _ (s : tie.Start) where
   result p = ends done (instanceOf p (s .args .a .now) (s .args .s .now))
 
 -- the entry, and the setting that was built anew
-abbrev start : tie.After-new → tie.Start
+abbrev start : tie.After-rebuilt → tie.Start
 start c = c .before .before .before
 
-abbrev anew : tie.After-new → Parameters
-anew c = parametersOf (c .new .result .setting)
+abbrev anew : tie.After-rebuilt → Parameters
+anew c = parametersOf (c .rebuilt .result .setting)
 
 abbrev else-1 : tie.Else2 → tie.Else1
 else-1 c = c .before .before .before .before .before
 
-new-requires : tie.Need-new-requires
-new-requires c κs = search needs
+rebuilt-requires : tie.Need-rebuilt-requires
+rebuilt-requires c κs = search needs
 
 returns : tie.Need-returns
 unfolding commit answerOf
 returns c =
     let n = c .before in
     let s = start n in
-    out-by-setting (rules s) (out s) (result s) (parametersOf (s .args .setting)) (n .new .result) (n .new .ensures) (c .if1 .taken)
+    out-by-setting (rules s) (out s) (result s) (parametersOf (s .args .setting)) (n .rebuilt .result) (n .rebuilt .ensures) (c .if1 .taken)
 
 -- the new setting is accepted
-again : (c : tie.Else1) → Rebuilt (c .before .new .result .setting)
-again c = rebuilt (parametersOf (start (c .before) .args .setting)) (c .before .new .result) (c .before .new .ensures) (c .if1 .left)
+again : (c : tie.Else1) → Rebuilt (c .before .rebuilt .result .setting)
+again c = rebuilt (parametersOf (start (c .before) .args .setting)) (c .before .rebuilt .result) (c .before .rebuilt .ensures) (c .if1 .left)
 
 commit-refusal-requires : tie.Need-commit-refusal-requires
 commit-refusal-requires c κs = again (c .before .before .before)
@@ -68,7 +68,7 @@ returns-2 c =
     let e = w .before .before .before .before in
     let n = e .before in
     let s = start n in
-    out-by-own (rules s) (out s) (result s) (parametersOf (s .args .setting)) (n .new .result) (n .new .ensures) (e .if1 .left) (w .commit-refusal .result) (w .commit-refusal .ensures) (c .if2 .taken)
+    out-by-own (rules s) (out s) (result s) (parametersOf (s .args .setting)) (n .rebuilt .result) (n .rebuilt .ensures) (e .if1 .left) (w .commit-refusal .result) (w .commit-refusal .ensures) (c .if2 .taken)
 
 -- past the refusals the call is proper
 proper : (c : tie.Else2) →
@@ -79,7 +79,7 @@ proper c =
     let n = else-1 c .before in
     let s = start n in
     commit-proper (anew n) (s .args .a .now) (s .args .s .now) (out s) .0
-    (none-applied (rules s) (out s) (result s) (parametersOf (s .args .setting)) (n .new .result) (n .new .ensures) (else-1 c .if1 .left) (c .before .commit-refusal .result) (c .before .commit-refusal .ensures) (c .if2 .left))
+    (none-applied (rules s) (out s) (result s) (parametersOf (s .args .setting)) (n .rebuilt .result) (n .rebuilt .ensures) (else-1 c .if1 .left) (c .before .commit-refusal .result) (c .before .commit-refusal .ensures) (c .if2 .left))
 
 commitment-requires : tie.Need-commitment-requires
 commitment-requires c κs = let l = proper (c .before) .lengths in (l .0, l .1, l .2 .0)
@@ -91,7 +91,7 @@ cross-products-requires c κs =
     let s = start n in
     let l = proper e .lengths in
     let columns = proper e .columns in
-    ((l .1, l .1, l .2 .1), columns-fit (anew n) (rebuilt-accepted (n .new .result .setting) (again (else-1 e))) (s .args .s .now) (s .args .s .now) columns columns)
+    ((l .1, l .1, l .2 .1), columns-fit (anew n) (rebuilt-accepted (n .rebuilt .result .setting) (again (else-1 e))) (s .args .s .now) (s .args .s .now) columns columns)
 
 same-length-3 : tie.Need-same-length-3
 same-length-3 c = search needs
@@ -106,13 +106,13 @@ returns-3 c =
     let n = else-1 e .before in
     let s = start n in
     ap₂ (λ (t : List ℕ) (d : List ℤ). ends done (record { T = t; D = d })) (c .before .before .before .before .before .commitment .ensures) (c .before .cross-products .ensures)
-    ∙ out-at-end (rules s) (out s) (result s) (parametersOf (s .args .setting)) (n .new .result) (n .new .ensures) (else-1 e .if1 .left) (e .before .commit-refusal .result) (e .before .commit-refusal .ensures) (e .if2 .left)
+    ∙ out-at-end (rules s) (out s) (result s) (parametersOf (s .args .setting)) (n .rebuilt .result) (n .rebuilt .ensures) (else-1 e .if1 .left) (e .before .commit-refusal .result) (e .before .commit-refusal .ensures) (e .if2 .left)
 
 pub commit-spec : {M : Type 1} → statement M
 commit-spec =
     tie.close
     (tie.spec
-    new-requires
+    rebuilt-requires
     returns
     commit-refusal-requires
     same-length

@@ -1,19 +1,28 @@
 -- `cross_products::add_four_multiples` meets its contract: the products are added to the numbers from number j on.
-use Prim.Native.Nat.{_-_, _<_}
+use Prim.Native.Nat.{ℕ, _-_, _<_}
 use native.Mathlib.Omega.{arith}
-use lib.IntN.{pos}
-use lib.ListN.{getD}
+use lib.IntN.{ℤ, pos}
+use lib.ListN.{length, getD}
 use Rattle.matrices.specs.Matrices.{product, transposed}
 use Rattle.matrices.specs.Tables.{signed}
-use Rattle.cross_products.proofs.Sums.{AddedFrom, from-none, from-more, Fit, four-room, four-sum}
+use Rattle.matrices.specs.Elements.{exactly, Added}
+use Rattle.matrices.proofs.Elements.{added-none, added-down}
+use Rattle.cross_products.proofs.Sums.{Fit, four-room, four-sum}
 use Rattle.cross_products.proofs.add_four_multiples.Statement.{statement}
 use Rattle.cross_products.proofs.add_four_multiples.Tie as tie
 
 abbrev Inv-loop : tie.InvT-loop
-Inv-loop x y t i row₀ x0 x1 x2 x3 j₀ row j = AddedFrom (λ j. product 4 (transposed (signed t x)) (signed t y) i j) j row₀ row
+Inv-loop x y rows cols i row₀ x0 x1 x2 x3 j₀ row j =
+    Added exactly (product 4 (transposed (signed rows x)) (signed cols y) i) j (length row₀) row₀ row
 
 abbrev μ-loop : tie.MeasureT-loop
-μ-loop x y t i row₀ x0 x1 x2 x3 j₀ row j = j
+μ-loop x y rows cols i row₀ x0 x1 x2 x3 j₀ row j = j
+
+-- what is added
+abbrev added : tie.Start Inv-loop μ-loop → ℕ → ℤ
+added c =
+    let a = c .args in
+    product 4 (transposed (signed (a .rows) (a .x .now))) (signed (a .cols) (a .y .now)) (a .i)
 
 mul-x0 : tie.Need-mul-x0 Inv-loop μ-loop
 mul-x0 c = omega arith
@@ -55,7 +64,9 @@ shared-slice-copy-out-x3 : tie.Need-shared-slice-copy-out-x3 Inv-loop μ-loop
 shared-slice-copy-out-x3 c = omega arith
 
 loop-holds : tie.Need-loop-holds Inv-loop μ-loop
-loop-holds c = from-none _ _ _ (c .before .before .before .before .pre .0 .3)
+loop-holds c =
+    let s = c .before .before .before .before in
+    rw (s .pre .0 .3) (added-none exactly (added s) (s .args .cols) (s .args .row .now))
 
 sub-j : tie.Need-sub-j Inv-loop μ-loop
 sub-j c = omega arith
@@ -70,7 +81,8 @@ slice-copy-out-four-more c = omega arith
 fit : (c : tie.After-four-more-arg Inv-loop μ-loop) →
     let l = c .before .before in
     let a = l .before .before .before .before .before .args in
-    Fit (a .t) (a .i) (l .loop .j - 1) (a .x .now) (a .y .now) (getD (l .loop .row) (l .loop .j - 1) (pos 0))
+    let j = l .loop .j - 1 in
+    Fit (a .rows) (a .cols) (a .i) j (a .x .now) (a .y .now) (getD (l .loop .row) j (pos 0))
 fit c =
     let e = c .before .before .before in
     record {
@@ -87,13 +99,14 @@ four-more-requires c κs =
     let s = l .before .before .before .before .before in
     let a = s .args in
     let j = l .loop .j - 1 in
-    let h : j < a .t = omega (arith, l .loop .inv .within, s .pre .0 .3) in (
+    let h : j < a .cols = omega (arith, l .loop .inv .within, s .pre .0 .3) in (
       (s .pre .0 .1, h),
-      four-room (a .t) (a .i) j (a .x .now) (a .y .now) (getD (l .loop .row) j (pos 0)) (fit c) (rw (l .loop .inv .rest j (omega arith)) (s .pre .1 j h)),
+      four-room (a .rows) (a .cols) (a .i) j (a .x .now) (a .y .now) (getD (l .loop .row) j (pos 0)) (fit c)
+          (rw (l .loop .inv .below j (omega arith)) (s .pre .1 j h)),
     )
 
-mul-t24 : tie.Need-mul-t24 Inv-loop μ-loop
-mul-t24 c = omega arith
+mul-t25 : tie.Need-mul-t25 Inv-loop μ-loop
+mul-t25 c = omega arith
 
 slice-set-from-row : tie.Need-slice-set-from-row Inv-loop μ-loop
 slice-set-from-row c = omega arith
@@ -104,10 +117,13 @@ loop-less c = omega arith
 loop-again : tie.Need-loop-again Inv-loop μ-loop
 loop-again c =
     let l = c .before .before .before .loop in
-    let a = c .before .before .before .before .before .before .before .before .args in
+    let s = c .before .before .before .before .before .before .before .before in
+    let a = s .args in
     let r = c .four-more in
-    from-more _ _ (l .j) (l .row) _ (omega arith)
-    (four-sum (a .t) (a .i) (l .j - 1) (a .x .now) (a .y .now) (getD (l .row) (l .j - 1) (pos 0)) (fit (c .before)) (r .ensures) (record { sfits = r .ok })) (l .inv)
+    added-down exactly (added s) (l .j) (length (a .row .now)) (a .row .now) (l .row) _ (l .inv)
+    (omega arith) (omega (arith, l .inv .within, l .inv .long))
+    (four-sum (a .rows) (a .cols) (a .i) (l .j - 1) (a .x .now) (a .y .now) (getD (l .row) (l .j - 1) (pos 0))
+    (fit (c .before)) (r .ensures) (record { sfits = r .ok }))
 
 same-length : tie.Need-same-length Inv-loop μ-loop
 same-length c = omega arith
@@ -141,7 +157,7 @@ add-four-multiples-spec =
     mul-four-more
     slice-copy-out-four-more
     four-more-requires
-    mul-t24
+    mul-t25
     slice-set-from-row
     loop-less
     loop-again

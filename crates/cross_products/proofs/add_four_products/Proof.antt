@@ -6,30 +6,33 @@ use native.Mathlib.Omega.{arith}
 use lib.ListN.{length}
 use Rattle.matrices.specs.Matrices.{Matrix, product, transposed}
 use Rattle.matrices.specs.Tables.{signed}
-use Rattle.matrices.proofs.Tables.{row-within}
-use Rattle.cross_products.proofs.Sums.{lent-size, RowsAdded, rows-none, lent-before, rows-more}
+use Rattle.matrices.proofs.Tables.{row-within, row-long}
+use Rattle.cross_products.proofs.Sums.{RowsAdded, rows-none, lent-before, rows-more}
 use Rattle.cross_products.proofs.add_four_products.Statement.{statement}
 use Rattle.cross_products.proofs.add_four_products.Tie as tie
 
 abbrev Inv-loop : tie.InvT-loop
-Inv-loop x y t out₀ i₀ out i = (i ≤ t) × RowsAdded t (product 4 (transposed (signed t x)) (signed t y)) i out₀ out
+Inv-loop x y rows cols out₀ i₀ out i =
+    (i ≤ rows) × RowsAdded cols (product 4 (transposed (signed rows x)) (signed cols y)) i out₀ out
 
 abbrev μ-loop : tie.MeasureT-loop
-μ-loop x y t out₀ i₀ out i = t - i
+μ-loop x y rows cols out₀ i₀ out i = rows - i
 
 -- what is added
 abbrev added : tie.Start Inv-loop μ-loop → Matrix
-added c = product 4 (transposed (signed (c .args .t) (c .args .x .now))) (signed (c .args .t) (c .args .y .now))
+added c = product 4 (transposed (signed (c .args .rows) (c .args .x .now))) (signed (c .args .cols) (c .args .y .now))
 
 loop-holds : tie.Need-loop-holds Inv-loop μ-loop
-loop-holds c = (omega arith, rows-none (c .args .t) (added c) (c .args .out .now))
+loop-holds c = (omega arith, rows-none (c .args .cols) (added c) (c .args .out .now))
 
 -- row i lies within `out`
-row : (c : tie.In-loop Inv-loop μ-loop) → let t = c .before .before .args .t in c .before .loop .i * t + t ≤ t * t
-row c = let t = c .before .before .args .t in row-within t t (c .before .loop .i) (c .loop-test .taken)
+row : (c : tie.In-loop Inv-loop μ-loop) →
+    let a = c .before .before .args in
+    c .before .loop .i * a .cols + a .cols ≤ a .rows * a .cols
+row c = let a = c .before .before .args in row-within (a .rows) (a .cols) (c .before .loop .i) (c .loop-test .taken)
 
-square : (c : tie.At-loop Inv-loop μ-loop) → length (c .loop .out) ≡ c .before .args .t * c .before .args .t
-square c = c .loop .inv .1 .long ∙ c .before .pre .0 .2
+size : (c : tie.At-loop Inv-loop μ-loop) → length (c .loop .out) ≡ c .before .args .rows * c .before .args .cols
+size c = c .loop .inv .1 .long ∙ c .before .pre .0 .2
 
 mul-start : tie.Need-mul-start Inv-loop μ-loop
 mul-start c = omega (arith, row c)
@@ -47,7 +50,7 @@ part-add-four-multiples-start : tie.Need-part-add-four-multiples-start Inv-loop 
 part-add-four-multiples-start c = omega (arith, row c)
 
 part-add-four-multiples-end : tie.Need-part-add-four-multiples-end Inv-loop μ-loop
-part-add-four-multiples-end c = omega (arith, row c, square (c .before))
+part-add-four-multiples-end c = omega (arith, row c, size (c .before))
 
 add-four-multiples-requires : tie.Need-add-four-multiples-requires Inv-loop μ-loop
 add-four-multiples-requires c κs =
@@ -56,8 +59,10 @@ add-four-multiples-requires c κs =
     let a = s .args in
     let i = l .loop .i in
     let h = c .before .loop-test .taken in (
-      (s .pre .0 .0, s .pre .0 .1, h, lent-size (a .t) (a .t) i (l .loop .out) h (square l)),
-      λ j hj. rw (lent-before (a .t) (added s) (a .out .now) i (l .loop .out) h (square l) (l .loop .inv .1) j hj) (s .pre .1 i j h hj),
+      (s .pre .0 .0, s .pre .0 .1, h, row-long (a .rows) (a .cols) i (l .loop .out) (size l) h),
+      λ j hj.
+          let before = lent-before (a .cols) (added s) (a .out .now) (a .rows) i (l .loop .out) h (size l) (l .loop .inv .1) in
+          rw (before j hj) (s .pre .1 i j h hj),
     )
 
 add-i : tie.Need-add-i Inv-loop μ-loop
@@ -68,12 +73,13 @@ loop-less c = search needs
 
 loop-again : tie.Need-loop-again Inv-loop μ-loop
 loop-again c =
-    let l = c .before .before .before .before in
+    let t = c .before .before .before in
+    let l = t .before in
     let a = l .before .args in
     let r = c .before .add-four-multiples in (
       omega arith,
-      rows-more (a .t) (added (l .before)) (a .out .now) (l .loop .i) (l .loop .out) (c .before .before .before .loop-test .taken) (square l) (l .loop .inv .1)
-          (r .last .1 .1 .1 .1 .0) (r .kept .1 .1 .1 .1 .0) (r .ensures),
+      rows-more (a .cols) (added (l .before)) (a .out .now) (a .rows) (l .loop .i) (l .loop .out) (t .loop-test .taken)
+          (size l) (l .loop .inv .1) (r .last .1 .1 .1 .1 .1 .0) (r .kept .1 .1 .1 .1 .1 .0) (r .ensures),
     )
 
 same-length : tie.Need-same-length Inv-loop μ-loop

@@ -8,27 +8,29 @@ use lib.ListN.{length, getD}
 use mir.Syntax.{w64}
 use mir.Val.{toZ, ofZ}
 use mir.ValLaws.{toZ-ofZ}
-use Rattle.matrices.proofs.Tables.{row-within}
+use Rattle.matrices.proofs.Tables.{row-within, row-long}
 use Rattle.cross_products.specs.Rows.{outer}
-use Rattle.cross_products.proofs.Sums.{lent-size, RowsAdded, rows-none, multiple-room, multiple-more}
+use Rattle.cross_products.proofs.Sums.{RowsAdded, rows-none, multiple-room, multiple-more}
 use Rattle.cross_products.proofs.add_products.Statement.{statement}
 use Rattle.cross_products.proofs.add_products.Tie as tie
 
 abbrev Inv-loop : tie.InvT-loop
-Inv-loop x y t out₀ i₀ out i = (i ≤ t) × RowsAdded t (outer x y) i out₀ out
+Inv-loop x y rows cols out₀ i₀ out i = (i ≤ rows) × RowsAdded cols (outer x y) i out₀ out
 
 abbrev μ-loop : tie.MeasureT-loop
-μ-loop x y t out₀ i₀ out i = t - i
+μ-loop x y rows cols out₀ i₀ out i = rows - i
 
 loop-holds : tie.Need-loop-holds Inv-loop μ-loop
-loop-holds c = (omega arith, rows-none (c .args .t) (outer (c .args .x .now) (c .args .y .now)) (c .args .out .now))
+loop-holds c = (omega arith, rows-none (c .args .cols) (outer (c .args .x .now) (c .args .y .now)) (c .args .out .now))
 
 -- row i lies within `out`
-row : (c : tie.In-loop Inv-loop μ-loop) → let t = c .before .before .args .t in c .before .loop .i * t + t ≤ t * t
-row c = let t = c .before .before .args .t in row-within t t (c .before .loop .i) (c .loop-test .taken)
+row : (c : tie.In-loop Inv-loop μ-loop) →
+    let a = c .before .before .args in
+    c .before .loop .i * a .cols + a .cols ≤ a .rows * a .cols
+row c = let a = c .before .before .args in row-within (a .rows) (a .cols) (c .before .loop .i) (c .loop-test .taken)
 
-square : (c : tie.At-loop Inv-loop μ-loop) → length (c .loop .out) ≡ c .before .args .t * c .before .args .t
-square c = c .loop .inv .1 .long ∙ c .before .pre .0 .2
+size : (c : tie.At-loop Inv-loop μ-loop) → length (c .loop .out) ≡ c .before .args .rows * c .before .args .cols
+size c = c .loop .inv .1 .long ∙ c .before .pre .0 .2
 
 mul-start : tie.Need-mul-start Inv-loop μ-loop
 mul-start c = omega (arith, row c)
@@ -52,7 +54,7 @@ part-add-multiple-start : tie.Need-part-add-multiple-start Inv-loop μ-loop
 part-add-multiple-start c = omega (arith, row (c .before))
 
 part-add-multiple-end : tie.Need-part-add-multiple-end Inv-loop μ-loop
-part-add-multiple-end c = omega (arith, row (c .before), square (c .before .before))
+part-add-multiple-end c = omega (arith, row (c .before), size (c .before .before))
 
 -- what stands at number i of x is read
 read : (c : tie.After-add-multiple-arg Inv-loop μ-loop) →
@@ -69,8 +71,9 @@ add-multiple-requires c κs =
     let s = l .before in
     let a = s .args in
     let h = c .before .before .loop-test .taken in (
-      s .pre .0 .1 ∙ sym (lent-size (a .t) (a .t) (l .loop .i) (l .loop .out) h (square l)),
-      multiple-room (a .t) (a .x .now) (a .y .now) (a .out .now) (l .loop .i) (l .loop .out) _ h (square l) (read (c .before)) (l .loop .inv .1) (s .pre .1),
+      s .pre .0 .1 ∙ sym (row-long (a .rows) (a .cols) (l .loop .i) (l .loop .out) (size l) h),
+      multiple-room (a .rows) (a .cols) (a .x .now) (a .y .now) (a .out .now) (l .loop .i) (l .loop .out) _ h (size l)
+          (read (c .before)) (l .loop .inv .1) (s .pre .1),
     )
 
 add-i : tie.Need-add-i Inv-loop μ-loop
@@ -81,11 +84,13 @@ loop-less c = search needs
 
 loop-again : tie.Need-loop-again Inv-loop μ-loop
 loop-again c =
-    let l = c .before .before .before .before .before in
+    let t = c .before .before .before .before in
+    let l = t .before in
     let a = l .before .args in
     let r = c .before .add-multiple in (
       omega arith,
-      multiple-more (a .t) (a .x .now) (a .y .now) (a .out .now) (l .loop .i) (l .loop .out) _ (c .before .before .before .before .loop-test .taken) (square l)
+      multiple-more (a .rows) (a .cols) (a .x .now) (a .y .now) (a .out .now) (l .loop .i) (l .loop .out) _
+          (t .loop-test .taken) (size l)
           (read (c .before .before .before)) (l .loop .inv .1) (r .last .1 .1 .0) (r .kept .1 .1 .0) (r .ensures),
     )
 

@@ -1,57 +1,126 @@
 -- `cross_products::cross_products` meets its contract: `out` is x transposed times y, of the first k rows of both.
 use borrow.Author.Needs.{needs}
-use mathlib.Core.Path.{_≡_, sym, _∙_}
-use Prim.Native.Nat.{_+_, _-_, _*_, _≤_}
+use mathlib.Core.Path.{_≡_, sym, _∙_, ap}
+use mathlib.Core.Logic.{⊎-elim}
+use Prim.Native.Nat.{_+_, _-_, _*_, _<_, _≤_}
 use native.Mathlib.Omega.{arith}
 use lib.IntN.{pos}
 use lib.ListN.{length}
 use Rattle.matrices.specs.Matrices.{Agree}
 use Rattle.matrices.specs.Tables.{signed}
-use Rattle.matrices.proofs.Tables.{row-within, rows-within, table-of}
-use Rattle.cross_products.proofs.Sums.{lent-size, four-size, crossed, crossed-none, crossed-more, crossed-room, crossed-four, crossed-four-room}
+use Rattle.matrices.proofs.Tables.{row-within, rows-within, row-long, table-of}
+use Rattle.cross_products.proofs.Sums.{four-size, first-size, crossed, crossed-none}
+use Rattle.cross_products.proofs.Sums.{crossed-first, crossed-first-room}
+use Rattle.cross_products.proofs.Sums.{crossed-more, crossed-room, crossed-four, crossed-four-room}
 use Rattle.cross_products.proofs.cross_products.Statement.{statement}
 use Rattle.cross_products.proofs.cross_products.Tie as tie
 
 abbrev Inv-loop : tie.InvT-loop
-Inv-loop x y m t out₀ k₀ out k = (k ≤ m) × (length out ≡ t * t) × Agree t t (signed t out) (crossed t x y k)
+Inv-loop x y m rows cols out₀ k₀ out k =
+    (k ≤ m) × (length out ≡ rows * cols) × Agree rows cols (signed cols out) (crossed rows cols x y k)
 
 abbrev μ-loop : tie.MeasureT-loop
-μ-loop x y m t out₀ k₀ out k = m - k
+μ-loop x y m rows cols out₀ k₀ out k = m - k
 
 clear-requires : tie.Need-clear-requires Inv-loop μ-loop
 clear-requires c κs = search needs
 
+-- where the first row is written, there is one
+some : (c : tie.Else1 Inv-loop μ-loop) → 0 < c .before .args .m
+some c = omega (arith, c .if1 .left)
+
+slice-aggregate-write-products : tie.Need-slice-aggregate-write-products Inv-loop μ-loop
+slice-aggregate-write-products c =
+    let s = c .before .before in
+    sym (first-size (s .args .m) (s .args .rows) (s .args .x .now) (some (c .before)) (s .pre .0 .0))
+
+slice-aggregate-write-products-2 : tie.Need-slice-aggregate-write-products-2 Inv-loop μ-loop
+slice-aggregate-write-products-2 c =
+    let s = c .before .before .before in
+    sym (first-size (s .args .m) (s .args .cols) (s .args .y .now) (some (c .before .before)) (s .pre .0 .1))
+
+write-products-requires : tie.Need-write-products-requires Inv-loop μ-loop
+write-products-requires c κs =
+    let t = c .before .before .before in
+    let s = t .before in
+    let a = s .args in (
+      (
+        first-size (a .m) (a .rows) (a .x .now) (some t) (s .pre .0 .0),
+        first-size (a .m) (a .cols) (a .y .now) (some t) (s .pre .0 .1),
+        s .pre .0 .2,
+      ),
+      crossed-first-room (a .rows) (a .cols) (a .x .now) (a .y .now) (a .m) (s .pre .1) (some t),
+    )
+
 loop-holds : tie.Need-loop-holds Inv-loop μ-loop
 loop-holds c =
-    let s = c .before .before .before in
+    let s = c .before in
     let a = s .args in
-    let r = c .before .clear in (
-      omega arith,
-      r .kept .0 ∙ s .pre .0 .2,
-      crossed-none (a .t) (a .x .now) (a .y .now) (r .last .0) (length (a .out .now)) (r .ensures),
-    )
+    ⊎-elim
+    (λ w.
+    let none : c .if1 .k ≡ 0 = w .5 in
+    let r = w .2 in (
+      omega (arith, none),
+      ap length (w .4) ∙ r .kept .0 ∙ s .pre .0 .2,
+      rw (none, w .4)
+          (crossed-none (a .rows) (a .cols) (a .x .now) (a .y .now) (r .last .0) (length (a .out .now)) (r .ensures)),
+    ))
+    (λ w.
+    let one : c .if1 .k ≡ 1 = w .7 in
+    let r = w .4 in (
+      omega (arith, one, some (record { before = s; if1 = w .0 })),
+      ap length (w .6) ∙ r .kept .1 .1 .1 .1 .0 ∙ s .pre .0 .2,
+      rw (one, w .6)
+          (crossed-first (a .rows) (a .cols) (a .x .now) (a .y .now) (r .last .1 .1 .1 .1 .0) (r .ensures)),
+    ))
+    (c .if1 .came)
 
 -- the function's entry, seen from the loop
 abbrev start : tie.At-loop Inv-loop μ-loop → tie.Start Inv-loop μ-loop
-start c = c .before .before .before .before
+start c = c .before .before
 
 -- the rows of x and y that a turn takes lie within them
-row : (c : tie.In-loop Inv-loop μ-loop) → let a = start (c .before) .args in c .before .loop .k * a .t + a .t ≤ a .m * a .t
-row c = let a = start (c .before) .args in row-within (a .m) (a .t) (c .before .loop .k) (c .loop-test .taken)
+row : (c : tie.After-row-known Inv-loop μ-loop) →
+    let l = c .before .before in
+    let a = start l .args in
+    let k = l .loop .k in
+    (k * a .rows + a .rows ≤ a .m * a .rows) × (k * a .cols + a .cols ≤ a .m * a .cols)
+row c =
+    let l = c .before .before in
+    let a = start l .args in
+    let h = c .before .loop-test .taken in
+    (row-within (a .m) (a .rows) (l .loop .k) h, row-within (a .m) (a .cols) (l .loop .k) h)
 
-four : (c : tie.Then1 Inv-loop μ-loop) → c .before .before .loop .k + 4 ≤ start (c .before .before) .args .m
+-- the loop's head, seen from where four rows are taken
+abbrev turn : tie.Then2 Inv-loop μ-loop → tie.At-loop Inv-loop μ-loop
+turn c = c .before .before .before
+
+four : (c : tie.Then2 Inv-loop μ-loop) → turn c .loop .k + 4 ≤ start (turn c) .args .m
 four c = omega arith
 
-four-rows : (c : tie.Then1 Inv-loop μ-loop) →
-    let a = start (c .before .before) .args in
-    c .before .before .loop .k * a .t + 4 * a .t ≤ a .m * a .t
-four-rows c = let a = start (c .before .before) .args in rows-within (a .m) (a .t) (c .before .before .loop .k) 4 (four c)
+four-rows : (c : tie.Then2 Inv-loop μ-loop) →
+    let a = start (turn c) .args in
+    let k = turn c .loop .k in
+    (k * a .rows + 4 * a .rows ≤ a .m * a .rows) × (k * a .cols + 4 * a .cols ≤ a .m * a .cols)
+four-rows c =
+    let a = start (turn c) .args in
+    let k = turn c .loop .k in
+    (rows-within (a .m) (a .rows) k 4 (four c), rows-within (a .m) (a .cols) k 4 (four c))
+
+mul-from : tie.Need-mul-from Inv-loop μ-loop
+mul-from c = omega (arith, row c)
 
 mul-start : tie.Need-mul-start Inv-loop μ-loop
 mul-start c = omega (arith, row c)
 
-sub-if1 : tie.Need-sub-if1 Inv-loop μ-loop
-sub-if1 c = omega arith
+sub-if2 : tie.Need-sub-if2 Inv-loop μ-loop
+sub-if2 c = omega arith
+
+mul-to : tie.Need-mul-to Inv-loop μ-loop
+mul-to c = omega (arith, four-rows c)
+
+add-to : tie.Need-add-to Inv-loop μ-loop
+add-to c = omega (arith, four-rows c)
 
 mul-end : tie.Need-mul-end Inv-loop μ-loop
 mul-end c = omega (arith, four-rows c)
@@ -86,12 +155,17 @@ part-add-four-products-end-2 c = omega (arith, four-rows (c .before))
 add-four-products-requires : tie.Need-add-four-products-requires Inv-loop μ-loop
 add-four-products-requires c κs =
     let t = c .before .before .before in
-    let l = t .before .before in
+    let l = turn t in
     let s = start l in
     let a = s .args in
     let k = l .loop .k in (
-      (four-size (a .m) (a .t) k (a .x .now) (four t) (s .pre .0 .0), four-size (a .m) (a .t) k (a .y .now) (four t) (s .pre .0 .1), l .loop .inv .1),
-      crossed-four-room (a .t) (a .x .now) (a .y .now) (a .m) k (l .loop .out) (four t) (s .pre .1) (l .loop .inv .2),
+      (
+        four-size (a .m) (a .rows) k (a .x .now) (four t) (s .pre .0 .0),
+        four-size (a .m) (a .cols) k (a .y .now) (four t) (s .pre .0 .1),
+        l .loop .inv .1,
+      ),
+      crossed-four-room (a .rows) (a .cols) (a .x .now) (a .y .now) k (l .loop .out) (l .loop .inv .2)
+          (a .m) (s .pre .1) (four t),
     )
 
 add-k : tie.Need-add-k Inv-loop μ-loop
@@ -102,13 +176,18 @@ loop-less c = omega arith
 
 loop-again : tie.Need-loop-again Inv-loop μ-loop
 loop-again c =
-    let l = c .before .before .before .before .before .before .before in
+    let t = c .before .before .before .before .before in
+    let l = turn t in
     let a = start l .args in
     let r = c .before .add-four-products in (
-      four (c .before .before .before .before .before),
-      r .kept .1 .1 .1 .0 ∙ l .loop .inv .1,
-      crossed-four (a .t) (a .x .now) (a .y .now) (l .loop .k) (l .loop .out) (r .last .1 .1 .1 .0) (r .ensures) (l .loop .inv .2),
+      four t,
+      r .kept .1 .1 .1 .1 .0 ∙ l .loop .inv .1,
+      crossed-four (a .rows) (a .cols) (a .x .now) (a .y .now) (l .loop .k) (l .loop .out) (l .loop .inv .2)
+          (r .last .1 .1 .1 .1 .0) (r .ensures),
     )
+
+add-to-2 : tie.Need-add-to-2 Inv-loop μ-loop
+add-to-2 c = omega (arith, row (c .before))
 
 add-end-2 : tie.Need-add-end-2 Inv-loop μ-loop
 add-end-2 c = omega (arith, row (c .before))
@@ -139,13 +218,18 @@ part-add-products-end-2 c = omega (arith, row (c .before .before))
 
 add-products-requires : tie.Need-add-products-requires Inv-loop μ-loop
 add-products-requires c κs =
-    let l = c .before .before .before .before .before in
+    let t = c .before .before .before .before .before in
+    let l = t .before in
     let s = start l in
     let a = s .args in
     let k = l .loop .k in
-    let h = c .before .before .before .before .loop-test .taken in (
-      (lent-size (a .m) (a .t) k (a .x .now) h (s .pre .0 .0), lent-size (a .m) (a .t) k (a .y .now) h (s .pre .0 .1), l .loop .inv .1),
-      crossed-room (a .t) (a .x .now) (a .y .now) (a .m) k (l .loop .out) h (s .pre .1) (l .loop .inv .2),
+    let h = t .loop-test .taken in (
+      (
+        row-long (a .m) (a .rows) k (a .x .now) (s .pre .0 .0) h,
+        row-long (a .m) (a .cols) k (a .y .now) (s .pre .0 .1) h,
+        l .loop .inv .1,
+      ),
+      crossed-room (a .rows) (a .cols) (a .x .now) (a .y .now) k (l .loop .out) (l .loop .inv .2) (a .m) (s .pre .1) h,
     )
 
 add-k-2 : tie.Need-add-k-2 Inv-loop μ-loop
@@ -156,12 +240,14 @@ loop-less-2 c = omega arith
 
 loop-again-2 : tie.Need-loop-again-2 Inv-loop μ-loop
 loop-again-2 c =
-    let l = c .before .before .before .before .before .before .before in
+    let t = c .before .before .before .before .before .before .before in
+    let l = t .before in
     let a = start l .args in
     let r = c .before .add-products in (
-      omega (arith, c .before .before .before .before .before .before .loop-test .taken),
-      r .kept .1 .1 .1 .0 ∙ l .loop .inv .1,
-      crossed-more (a .t) (a .x .now) (a .y .now) (l .loop .k) (l .loop .out) (r .last .1 .1 .1 .0) (r .ensures) (l .loop .inv .2),
+      omega (arith, t .loop-test .taken),
+      r .kept .1 .1 .1 .1 .0 ∙ l .loop .inv .1,
+      crossed-more (a .rows) (a .cols) (a .x .now) (a .y .now) (l .loop .k) (l .loop .out) (l .loop .inv .2)
+          (r .last .1 .1 .1 .1 .0) (r .ensures),
     )
 
 same-length : tie.Need-same-length Inv-loop μ-loop
@@ -172,7 +258,8 @@ returns c =
     let l = c .before .loop in
     let a = start (c .before) .args in
     let e : l .k ≡ a .m = omega arith in
-    rw (← e) (table-of (pos 0) (a .t) (a .t) (crossed (a .t) (a .x .now) (a .y .now) (l .k)) (l .out) (l .inv .1) (l .inv .2))
+    let made = crossed (a .rows) (a .cols) (a .x .now) (a .y .now) (l .k) in
+    rw (← e) (table-of (pos 0) (a .rows) (a .cols) made (l .out) (l .inv .1) (l .inv .2))
 
 pub cross-products-spec : {M : Type 1} → statement M
 cross-products-spec =
@@ -181,9 +268,15 @@ cross-products-spec =
     Inv-loop
     μ-loop
     clear-requires
+    slice-aggregate-write-products
+    slice-aggregate-write-products-2
+    write-products-requires
     loop-holds
+    mul-from
     mul-start
-    sub-if1
+    sub-if2
+    mul-to
+    add-to
     mul-end
     add-end
     mul-add-four-products
@@ -198,6 +291,7 @@ cross-products-spec =
     add-k
     loop-less
     loop-again
+    add-to-2
     add-end-2
     mul-add-products
     sub-add-products

@@ -1,156 +1,148 @@
--- `cross_products::four_more` meets its contract: each product and each sum of them fits a signed word.
-use Prim.Native.Nat.{_+_, _*_}
+-- `cross_products::four_more` meets its contract: it adds the four products one after the other.
+use borrow.Author.Needs.{needs}
+use mathlib.Core.Path.{_≡_}
+use Prim.Native.Nat.{_+_, _*_, _^_, _<_}
 use native.Mathlib.Omega.{arith}
-use lib.IntN.{pos, _+ℤ_, _*ℤ_}
+use lib.IntN.{ℤ, pos, natAbs, _+ℤ_, _*ℤ_}
 use lib.ListN.{getD}
 use mir.Syntax.{w64}
+use mir.Val.{toZ, ofZ}
+use mir.ValLaws.{toZ-ofZ}
 use Rattle.integers.proofs.Sizes.{natAbs-+}
-use Rattle.integers.proofs.Words.{read-back}
-use Rattle.cross_products.proofs.Sums.{times, plus, More, more}
+use Rattle.matrices.proofs.Turns.{room, read-added}
 use Rattle.cross_products.proofs.four_more.Statement.{statement}
 use Rattle.cross_products.proofs.four_more.Tie as tie
 
--- the first product, and so on
-one : (c : tie.After-result) → let a = c .before .args in More (a .a) (a .a) (a .x0) (getD (a .y .now) (a .j) (pos 0))
-one c =
-    let s = c .before in
-    let a = s .args in
-    more (a .a) (a .x0) (getD (a .y .now) (a .j) (pos 0)) (read-back w64 (a .a) (omega arith)) (s .fits .x0) (record { sfits = c .result .given }) (omega arith)
+-- product number k, and the sum with the first k of them
+module _ (s : tie.Start) where
+  abbrev y0 : ℤ
+  y0 = getD (s .args .y .now) (s .args .j) (pos 0)
 
-two : (c : tie.After-result2) →
-    let a = c .before .before .args in
-    let y = getD (a .y .now) (a .j) (pos 0) in
-    More (plus (a .a) (times (a .x0) y)) (a .a +ℤ a .x0 *ℤ y) (a .x1) (getD (a .y .now) (a .t + a .j) (pos 0))
-two c =
+  abbrev y1 : ℤ
+  y1 = getD (s .args .y .now) (s .args .cols + s .args .j) (pos 0)
+
+  abbrev y2 : ℤ
+  y2 = getD (s .args .y .now) (2 * s .args .cols + s .args .j) (pos 0)
+
+  abbrev y3 : ℤ
+  y3 = getD (s .args .y .now) (3 * s .args .cols + s .args .j) (pos 0)
+
+  abbrev s1 : ℤ
+  s1 = s .args .a +ℤ s .args .x0 *ℤ y0
+
+  abbrev s2 : ℤ
+  s2 = s1 +ℤ s .args .x1 *ℤ y1
+
+  abbrev s3 : ℤ
+  s3 = s2 +ℤ s .args .x2 *ℤ y2
+
+  -- none of them leaves a signed word
+  sizes : (natAbs (s .args .a) + natAbs (s .args .x0 *ℤ y0) < 2 ^ 63) × (natAbs s1 + natAbs (s .args .x1 *ℤ y1) < 2 ^ 63) × (natAbs s2 + natAbs (s .args .x2 *ℤ y2) < 2 ^ 63) × (natAbs s3 + natAbs (s .args .x3 *ℤ y3) < 2 ^ 63)
+  sizes =
+      let h = s .pre .1 in
+      let one = natAbs-+ (s .args .a) (s .args .x0 *ℤ y0) in
+      let two = natAbs-+ s1 (s .args .x1 *ℤ y1) in
+      let three = natAbs-+ s2 (s .args .x2 *ℤ y2) in
+      (omega (arith, h), omega (arith, h, one), omega (arith, h, one, two), omega (arith, h, one, two, three))
+
+held1 : (c : tie.After-add-product) → toZ w64 (ofZ w64 (c .add-product .result)) ≡ s1 (c .before .before)
+held1 c =
     let s = c .before .before in
-    let a = s .args in
-    let y = getD (a .y .now) (a .j) (pos 0) in
-    more (a .a +ℤ a .x0 *ℤ y) (a .x1) (getD (a .y .now) (a .t + a .j) (pos 0)) (one (c .before) .sum .read) (s .fits .x1) (record { sfits = c .result2 .given })
-    (omega (arith, natAbs-+ (a .a) (a .x0 *ℤ y)))
+    read-added (s .args .a) (s .args .x0) (y0 s) (toZ-ofZ w64 (s .args .a) (s .fits .a)) (s .fits .x0) (record { sfits = c .before .add-product-arg .given }) (c .add-product .ensures) (record { sfits = c .add-product .ok })
 
-three : (c : tie.After-result3) →
-    let a = c .before .before .before .args in
-    let y = getD (a .y .now) (a .j) (pos 0) in
-    let z = getD (a .y .now) (a .t + a .j) (pos 0) in
-    More (plus (plus (a .a) (times (a .x0) y)) (times (a .x1) z)) (a .a +ℤ a .x0 *ℤ y +ℤ a .x1 *ℤ z) (a .x2) (getD (a .y .now) (2 * a .t + a .j) (pos 0))
-three c =
-    let s = c .before .before .before in
-    let a = s .args in
-    let y = getD (a .y .now) (a .j) (pos 0) in
-    let z = getD (a .y .now) (a .t + a .j) (pos 0) in
-    more (a .a +ℤ a .x0 *ℤ y +ℤ a .x1 *ℤ z) (a .x2) (getD (a .y .now) (2 * a .t + a .j) (pos 0)) (two (c .before) .sum .read) (s .fits .x2)
-    (record { sfits = c .result3 .given }) (omega (arith, natAbs-+ (a .a) (a .x0 *ℤ y), natAbs-+ (a .a +ℤ a .x0 *ℤ y) (a .x1 *ℤ z)))
-
-four : (c : tie.After-result4) →
-    let a = c .before .before .before .before .args in
-    let y = getD (a .y .now) (a .j) (pos 0) in
-    let z = getD (a .y .now) (a .t + a .j) (pos 0) in
-    let v = getD (a .y .now) (2 * a .t + a .j) (pos 0) in
-    More (plus (plus (plus (a .a) (times (a .x0) y)) (times (a .x1) z)) (times (a .x2) v)) (a .a +ℤ a .x0 *ℤ y +ℤ a .x1 *ℤ z +ℤ a .x2 *ℤ v) (a .x3)
-    (getD (a .y .now) (3 * a .t + a .j) (pos 0))
-four c =
+held2 : (c : tie.After-add-product2) → toZ w64 (ofZ w64 (c .add-product2 .result)) ≡ s2 (c .before .before .before .before)
+held2 c =
     let s = c .before .before .before .before in
-    let a = s .args in
-    let y = getD (a .y .now) (a .j) (pos 0) in
-    let z = getD (a .y .now) (a .t + a .j) (pos 0) in
-    let v = getD (a .y .now) (2 * a .t + a .j) (pos 0) in
-    more (a .a +ℤ a .x0 *ℤ y +ℤ a .x1 *ℤ z +ℤ a .x2 *ℤ v) (a .x3) (getD (a .y .now) (3 * a .t + a .j) (pos 0)) (three (c .before) .sum .read) (s .fits .x3)
-    (record { sfits = c .result4 .given }) (omega (
-      arith,
-      natAbs-+ (a .a) (a .x0 *ℤ y),
-      natAbs-+ (a .a +ℤ a .x0 *ℤ y) (a .x1 *ℤ z),
-      natAbs-+ (a .a +ℤ a .x0 *ℤ y +ℤ a .x1 *ℤ z) (a .x2 *ℤ v),
-    ))
+    read-added (s1 s) (s .args .x1) (y1 s) (held1 (c .before .before)) (s .fits .x1) (record { sfits = c .before .add-product-arg2 .given }) (c .add-product2 .ensures) (record { sfits = c .add-product2 .ok })
 
-mul-result : tie.Need-mul-result
-mul-result c = omega arith
+held3 : (c : tie.After-add-product3) → toZ w64 (ofZ w64 (c .add-product3 .result)) ≡ s3 (c .before .before .before .before .before .before)
+held3 c =
+    let s = c .before .before .before .before .before .before in
+    read-added (s2 s) (s .args .x2) (y2 s) (held2 (c .before .before)) (s .fits .x2) (record { sfits = c .before .add-product-arg3 .given }) (c .add-product3 .ensures) (record { sfits = c .add-product3 .ok })
 
-shared-slice-copy-out-result : tie.Need-shared-slice-copy-out-result
-shared-slice-copy-out-result c = omega arith
+mul-add-product : tie.Need-mul-add-product
+mul-add-product c = search needs
 
-mul-result-2 : tie.Need-mul-result-2
-mul-result-2 c = one c .product .fits
+shared-slice-copy-out-add-product : tie.Need-shared-slice-copy-out-add-product
+shared-slice-copy-out-add-product c = search needs
 
-add-result : tie.Need-add-result
-add-result c = one c .sum .fits
+add-product-requires : tie.Need-add-product-requires
+add-product-requires c κs =
+    let s = c .before in
+    room (s .args .a) (s .args .x0) (y0 s) (toZ-ofZ w64 (s .args .a) (s .fits .a)) (s .fits .x0) (record { sfits = c .add-product-arg .given }) (sizes s .0)
 
-add-result-2 : tie.Need-add-result-2
-add-result-2 c = omega arith
+add-add-product : tie.Need-add-add-product
+add-add-product c = search needs
 
-mul-result-3 : tie.Need-mul-result-3
-mul-result-3 c = omega arith
+mul-add-product-2 : tie.Need-mul-add-product-2
+mul-add-product-2 c = search needs
 
-shared-slice-copy-out-result-2 : tie.Need-shared-slice-copy-out-result-2
-shared-slice-copy-out-result-2 c = omega arith
+shared-slice-copy-out-add-product-2 : tie.Need-shared-slice-copy-out-add-product-2
+shared-slice-copy-out-add-product-2 c = search needs
 
-mul-result-4 : tie.Need-mul-result-4
-mul-result-4 c = two c .product .fits
+add-product-requires-2 : tie.Need-add-product-requires-2
+add-product-requires-2 c κs =
+    let s = c .before .before .before in
+    room (s1 s) (s .args .x1) (y1 s) (held1 (c .before)) (s .fits .x1) (record { sfits = c .add-product-arg2 .given }) (sizes s .1)
 
-add-result-3 : tie.Need-add-result-3
-add-result-3 c = two c .sum .fits
+mul-add-product-3 : tie.Need-mul-add-product-3
+mul-add-product-3 c = search needs
 
-mul-result-5 : tie.Need-mul-result-5
-mul-result-5 c = omega arith
+add-add-product-2 : tie.Need-add-add-product-2
+add-add-product-2 c = search needs
 
-add-result-4 : tie.Need-add-result-4
-add-result-4 c = omega arith
+mul-add-product-4 : tie.Need-mul-add-product-4
+mul-add-product-4 c = search needs
 
-mul-result-6 : tie.Need-mul-result-6
-mul-result-6 c = omega arith
+shared-slice-copy-out-add-product-3 : tie.Need-shared-slice-copy-out-add-product-3
+shared-slice-copy-out-add-product-3 c = search needs
 
-shared-slice-copy-out-result-3 : tie.Need-shared-slice-copy-out-result-3
-shared-slice-copy-out-result-3 c = omega arith
+add-product-requires-3 : tie.Need-add-product-requires-3
+add-product-requires-3 c κs =
+    let s = c .before .before .before .before .before in
+    room (s2 s) (s .args .x2) (y2 s) (held2 (c .before)) (s .fits .x2) (record { sfits = c .add-product-arg3 .given }) (sizes s .2)
 
-mul-result-7 : tie.Need-mul-result-7
-mul-result-7 c = three c .product .fits
+mul-add-product-5 : tie.Need-mul-add-product-5
+mul-add-product-5 c = search needs
 
-add-result-5 : tie.Need-add-result-5
-add-result-5 c = three c .sum .fits
+add-add-product-3 : tie.Need-add-add-product-3
+add-add-product-3 c = search needs
 
-mul-result-8 : tie.Need-mul-result-8
-mul-result-8 c = omega arith
+mul-add-product-6 : tie.Need-mul-add-product-6
+mul-add-product-6 c = search needs
 
-add-result-6 : tie.Need-add-result-6
-add-result-6 c = omega arith
+shared-slice-copy-out-add-product-4 : tie.Need-shared-slice-copy-out-add-product-4
+shared-slice-copy-out-add-product-4 c = search needs
 
-mul-result-9 : tie.Need-mul-result-9
-mul-result-9 c = omega arith
-
-shared-slice-copy-out-result-4 : tie.Need-shared-slice-copy-out-result-4
-shared-slice-copy-out-result-4 c = omega arith
-
-mul-result-10 : tie.Need-mul-result-10
-mul-result-10 c = four c .product .fits
-
-add-result-7 : tie.Need-add-result-7
-add-result-7 c = four c .sum .fits
+add-product-requires-4 : tie.Need-add-product-requires-4
+add-product-requires-4 c κs =
+    let s = c .before .before .before .before .before .before .before in
+    room (s3 s) (s .args .x3) (y3 s) (held3 (c .before)) (s .fits .x3) (record { sfits = c .add-product-arg4 .given }) (sizes s .3)
 
 returns : tie.Need-returns
-returns c = four c .sum .read
+returns c =
+    let s = c .before .before .before .before .before .before .before .before in
+    read-added (s3 s) (s .args .x3) (y3 s) (held3 (c .before .before)) (s .fits .x3) (record { sfits = c .before .add-product-arg4 .given }) (c .add-product4 .ensures) (record { sfits = c .add-product4 .ok })
 
 pub four-more-spec : {M : Type 1} → statement M
 four-more-spec =
     tie.close
     (tie.spec
-    mul-result
-    shared-slice-copy-out-result
-    mul-result-2
-    add-result
-    add-result-2
-    mul-result-3
-    shared-slice-copy-out-result-2
-    mul-result-4
-    add-result-3
-    mul-result-5
-    add-result-4
-    mul-result-6
-    shared-slice-copy-out-result-3
-    mul-result-7
-    add-result-5
-    mul-result-8
-    add-result-6
-    mul-result-9
-    shared-slice-copy-out-result-4
-    mul-result-10
-    add-result-7
+    mul-add-product
+    shared-slice-copy-out-add-product
+    add-product-requires
+    add-add-product
+    mul-add-product-2
+    shared-slice-copy-out-add-product-2
+    add-product-requires-2
+    mul-add-product-3
+    add-add-product-2
+    mul-add-product-4
+    shared-slice-copy-out-add-product-3
+    add-product-requires-3
+    mul-add-product-5
+    add-add-product-3
+    mul-add-product-6
+    shared-slice-copy-out-add-product-4
+    add-product-requires-4
     returns)

@@ -1,46 +1,91 @@
+-- `digit_witnesses::write_witness` meets its contract: the first i rows of the digit witness are written.
 use borrow.Author.Needs.{needs}
+use mathlib.Core.Path.{_≡_, sym, _∙_}
 use Prim.Native.Nat.{_+_, _*_, _-_, _≤_}
 use native.Mathlib.Omega.{arith}
 use native.Mathlib.Nat.{zero-mul}
 use lib.IntN.{pos}
 use lib.ListN.{length}
 use Rattle.matrices.proofs.Tables.{TableTo, row-within, table-none, table-all}
-use Rattle.settings.specs.Settings.{NOf, parametersOf}
-use Rattle.lova.specs.Fold.{besideS, digitWitness}
-use Rattle.lova.proofs.Rebuilding.{rebuilt-accepted, k-is, N-is}
-use Rattle.digit_witnesses.proofs.DigitRows.{row-fits, row-written}
+use Rattle.settings.specs.Settings.{parametersOf}
+use Rattle.lova.proofs.Rebuilding.{rebuilt-accepted, k-is}
+use Rattle.digit_witnesses.proofs.DigitRows.{wide-high, digitsOfBoth, row-fits, row-written}
 use Rattle.digit_witnesses.proofs.write_witness.Statement.{statement}
 use Rattle.digit_witnesses.proofs.write_witness.Tie as tie
 
 abbrev Inv-loop : tie.InvT-loop
-Inv-loop setting s1 s2 out₀ m cols k wide i₀ out i = (i ≤ setting .m) × TableTo (pos 0) (setting .m) (NOf (parametersOf setting)) (digitWitness (parametersOf setting) (besideS (parametersOf setting) s1 s2)) out (i * NOf (parametersOf setting))
+Inv-loop setting right s1 s2 out₀ m left k wide i₀ out i =
+    (i ≤ m) × TableTo (pos 0) m wide (digitsOfBoth (parametersOf setting) right s1 s2) out (i * wide)
 
 abbrev μ-loop : tie.MeasureT-loop
-μ-loop setting s1 s2 out₀ m cols k wide i₀ out i = setting .m - i
+μ-loop setting right s1 s2 out₀ m left k wide i₀ out i = m - i
 
--- row i of a witness lies within it, and row i of the output within that
-witness-row : (c : tie.In-loop Inv-loop μ-loop) →
-    let s = c .before .before .args .setting in
-    c .before .loop .i * s .t + s .t ≤ s .m * s .t
-witness-row c = let s = c .before .before .args .setting in row-within (s .m) (s .t) (c .before .loop .i) (c .loop-test .taken)
+-- the digit witness has at most 512 columns
+wide-small : (c : tie.Start Inv-loop μ-loop) → let s = c .args .setting in (s .t + c .args .right) * s .k ≤ 512
+wide-small c =
+    let s = c .args .setting in
+    let whole = c .pre .0 .0 in
+    let high = wide-high (parametersOf s) (c .args .right) (c .pre .0 .1) in
+    rw (k-is s whole) (omega (arith, high, rebuilt-accepted s whole .columns))
 
-output-row : (c : tie.In-loop Inv-loop μ-loop) →
-    let s = c .before .before .args .setting in
-    c .before .loop .i * s .columns + s .columns ≤ length (c .before .loop .out)
-output-row c =
-    let s = c .before .before .args .setting in
-    rw (N-is s (c .before .before .pre .0), c .before .loop .inv .1 .long) (row-within (s .m) (NOf (parametersOf s)) (c .before .loop .i) (c .loop-test .taken))
+add-wide : tie.Need-add-wide Inv-loop μ-loop
+add-wide c = omega (arith, rebuilt-accepted (c .args .setting) (c .pre .0 .0) .t-high, c .pre .0 .1)
+
+mul-wide : tie.Need-mul-wide Inv-loop μ-loop
+mul-wide c = omega (arith, wide-small c)
+
+-- the output has m such rows, and keeps its length
+output-size : (c : tie.Start Inv-loop μ-loop) →
+    let s = c .args .setting in
+    length (c .args .out .now) ≡ s .m * ((s .t + c .args .right) * s .k)
+output-size c = rw (k-is (c .args .setting) (c .pre .0 .0)) (c .pre .1 .2)
+
+same-size : (c : tie.At-loop Inv-loop μ-loop) → length (c .loop .out) ≡ length (c .before .args .out .now)
+same-size c = c .loop .inv .1 .long ∙ sym (output-size (c .before))
 
 loop-holds : tie.Need-loop-holds Inv-loop μ-loop
 loop-holds c =
-    let s = c .args .setting in
-    (search needs, table-none (pos 0) (s .m) (NOf (parametersOf s)) (digitWitness (parametersOf s) (besideS (parametersOf s) (c .args .s1 .now) (c .args .s2 .now))) (c .args .out .now) (0 * NOf (parametersOf s)) (zero-mul (NOf (parametersOf s))) (c .pre .1 .2))
+    let a = c .args in
+    let s = a .setting in
+    let wide = (s .t + a .right) * s .k in (
+      omega arith,
+      table-none (pos 0) (s .m) wide (digitsOfBoth (parametersOf s) (a .right) (a .s1 .now) (a .s2 .now)) (a .out .now)
+          (0 * wide) (zero-mul wide) (output-size c),
+    )
 
-mul-from : tie.Need-mul-from Inv-loop μ-loop
-mul-from c = search needs
+-- row i of s1 and of s2 lie within them, and row i of the output within that
+witness-rows : (c : tie.In-loop Inv-loop μ-loop) →
+    let a = c .before .before .args in
+    let i = c .before .loop .i in
+    (i * a .setting .t + a .setting .t ≤ length (a .s1 .now)) × (i * a .right + a .right ≤ length (a .s2 .now))
+witness-rows c =
+    let s = c .before .before in
+    let a = s .args in
+    let h = c .loop-test .taken in (
+      rw (s .pre .1 .0) (row-within (a .setting .m) (a .setting .t) (c .before .loop .i) h),
+      rw (s .pre .1 .1) (row-within (a .setting .m) (a .right) (c .before .loop .i) h),
+    )
 
-add-to : tie.Need-add-to Inv-loop μ-loop
-add-to c = omega (arith, witness-row c, c .before .before .pre .1 .0)
+output-row : (c : tie.In-loop Inv-loop μ-loop) →
+    let a = c .before .before .args in
+    let wide = (a .setting .t + a .right) * a .setting .k in
+    c .before .loop .i * wide + wide ≤ length (c .before .before .args .out .now)
+output-row c =
+    let a = c .before .before .args in
+    let wide = (a .setting .t + a .right) * a .setting .k in
+    rw (output-size (c .before .before)) (row-within (a .setting .m) wide (c .before .loop .i) (c .loop-test .taken))
+
+mul-left-start : tie.Need-mul-left-start Inv-loop μ-loop
+mul-left-start c = omega (arith, witness-rows c)
+
+add-left-end : tie.Need-add-left-end Inv-loop μ-loop
+add-left-end c = omega (arith, witness-rows c)
+
+mul-right-start : tie.Need-mul-right-start Inv-loop μ-loop
+mul-right-start c = omega (arith, witness-rows c)
+
+add-right-end : tie.Need-add-right-end Inv-loop μ-loop
+add-right-end c = omega (arith, witness-rows c)
 
 mul-start : tie.Need-mul-start Inv-loop μ-loop
 mul-start c = omega (arith, output-row c)
@@ -49,50 +94,52 @@ add-end : tie.Need-add-end Inv-loop μ-loop
 add-end c = omega (arith, output-row c)
 
 mul-write-both : tie.Need-mul-write-both Inv-loop μ-loop
-mul-write-both c = search needs
+mul-write-both c = omega (arith, witness-rows c)
 
 sub-write-both : tie.Need-sub-write-both Inv-loop μ-loop
-sub-write-both c = search needs
+sub-write-both c = omega arith
 
 part-write-both-start : tie.Need-part-write-both-start Inv-loop μ-loop
-part-write-both-start c = search needs
+part-write-both-start c = omega (arith, witness-rows c)
 
 part-write-both-end : tie.Need-part-write-both-end Inv-loop μ-loop
-part-write-both-end c = omega (arith, witness-row c, c .before .before .pre .1 .0)
+part-write-both-end c = omega (arith, witness-rows c)
 
 mul-write-both-2 : tie.Need-mul-write-both-2 Inv-loop μ-loop
-mul-write-both-2 c = search needs
+mul-write-both-2 c = omega (arith, witness-rows (c .before))
 
 sub-write-both-2 : tie.Need-sub-write-both-2 Inv-loop μ-loop
-sub-write-both-2 c = search needs
+sub-write-both-2 c = omega arith
 
 part-write-both-start-2 : tie.Need-part-write-both-start-2 Inv-loop μ-loop
-part-write-both-start-2 c = search needs
+part-write-both-start-2 c = omega (arith, witness-rows (c .before))
 
 part-write-both-end-2 : tie.Need-part-write-both-end-2 Inv-loop μ-loop
-part-write-both-end-2 c = omega (arith, witness-row (c .before), c .before .before .before .pre .1 .1)
+part-write-both-end-2 c = omega (arith, witness-rows (c .before))
 
 mul-write-both-3 : tie.Need-mul-write-both-3 Inv-loop μ-loop
 mul-write-both-3 c = omega (arith, output-row (c .before .before))
 
 sub-write-both-3 : tie.Need-sub-write-both-3 Inv-loop μ-loop
-sub-write-both-3 c = search needs
+sub-write-both-3 c = omega arith
 
 part-write-both-start-3 : tie.Need-part-write-both-start-3 Inv-loop μ-loop
-part-write-both-start-3 c = search needs
+part-write-both-start-3 c = omega (arith, output-row (c .before .before))
 
 part-write-both-end-3 : tie.Need-part-write-both-end-3 Inv-loop μ-loop
-part-write-both-end-3 c = omega (arith, output-row (c .before .before))
+part-write-both-end-3 c = omega (arith, output-row (c .before .before), same-size (c .before .before .before))
 
 write-both-requires : tie.Need-write-both-requires Inv-loop μ-loop
 write-both-requires c κs =
-    let l = c .before .before .before .before in
-    let s = l .before .args .setting in
-    let r = l .before .pre .0 in (
-      rebuilt-accepted s r .b-low,
-      row-fits (parametersOf s) (l .before .args .s1 .now) (l .before .args .s2 .now) (l .before .pre .1 .0) (l .before .pre .1 .1) (l .loop .i) (s .columns) (s .k)
-          (l .loop .i * s .columns + s .columns - l .loop .i * s .columns) (l .loop .i * s .t + s .t - l .loop .i * s .t) (N-is s r) (k-is s r) (omega arith) (omega arith)
-          (c .before .before .before .loop-test .taken) (l .loop .out) (l .loop .inv .1 .long),
+    let t = c .before .before .before in
+    let l = t .before in
+    let a = l .before .args in
+    let s = a .setting in
+    let whole = l .before .pre .0 .0 in
+    let sizes = l .before .pre .1 in (
+      rebuilt-accepted s whole .b-low,
+      row-fits (parametersOf s) (a .right) (s .k) (a .s1 .now) (a .s2 .now) (k-is s whole) (sizes .0) (sizes .1)
+          (l .loop .i) (t .loop-test .taken) (l .loop .out) (l .loop .inv .1 .long),
     )
 
 add-i : tie.Need-add-i Inv-loop μ-loop
@@ -103,23 +150,28 @@ loop-less c = search needs
 
 loop-again : tie.Need-loop-again Inv-loop μ-loop
 loop-again c =
-    let l = c .before .before .before .before .before .before in
-    let s = l .before .args .setting in
-    let r = l .before .pre .0 in (
+    let t = c .before .before .before .before .before in
+    let l = t .before in
+    let a = l .before .args in
+    let s = a .setting in
+    let sizes = l .before .pre .1 in (
       omega arith,
-      row-written (parametersOf s) (l .before .args .s1 .now) (l .before .args .s2 .now) (l .before .pre .1 .0) (l .before .pre .1 .1) (l .loop .i) (s .columns) (s .k)
-          (l .loop .i * s .columns + s .columns - l .loop .i * s .columns) (l .loop .i * s .t + s .t - l .loop .i * s .t) (N-is s r) (k-is s r) (omega arith) (omega arith)
-          (c .before .before .before .before .before .loop-test .taken) (l .loop .out) _ (c .before .write-both .ensures) (l .loop .inv .1),
+      row-written (parametersOf s) (a .right) (s .k) (a .s1 .now) (a .s2 .now) (k-is s (l .before .pre .0 .0))
+          (sizes .0) (sizes .1) (l .loop .i) (t .loop-test .taken) (l .loop .out) _ (c .before .write-both .ensures) (l .loop .inv .1),
     )
 
 same-length : tie.Need-same-length Inv-loop μ-loop
-same-length c = search needs
+same-length c = same-size (c .before)
 
 returns : tie.Need-returns Inv-loop μ-loop
 returns c =
     let l = c .before in
-    let s = l .before .args .setting in
-    table-all (pos 0) (s .m) (NOf (parametersOf s)) (digitWitness (parametersOf s) (besideS (parametersOf s) (l .before .args .s1 .now) (l .before .args .s2 .now))) (l .loop .out) (l .loop .i) (omega arith) (l .loop .inv .1)
+    let a = l .before .args in
+    let s = a .setting in
+    let digits = digitsOfBoth (parametersOf s) (a .right) (a .s1 .now) (a .s2 .now) in
+    rw (← k-is s (l .before .pre .0 .0))
+    (table-all (pos 0) (s .m) ((s .t + a .right) * s .k) digits (l .loop .out) (l .loop .i) (omega arith)
+    (l .loop .inv .1))
 
 pub write-witness-spec : {M : Type 1} → statement M
 write-witness-spec =
@@ -127,9 +179,13 @@ write-witness-spec =
     (tie.spec
     Inv-loop
     μ-loop
+    add-wide
+    mul-wide
     loop-holds
-    mul-from
-    add-to
+    mul-left-start
+    add-left-end
+    mul-right-start
+    add-right-end
     mul-start
     add-end
     mul-write-both

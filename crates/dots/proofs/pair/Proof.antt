@@ -41,10 +41,10 @@ product-requires-2 : tie.Need-product-requires-2
 product-requires-2 c κs = search needs
 
 add-result : tie.Need-add-result
-add-result c = two (c .before .before .before .before .before .before .pre) (c .before .before .before .product .ensures) (c .product2 .ensures) .fits
+add-result c = two (c .before .before .before .before .before .before .pre) (record { sfits = c .before .before .before .before .before .product-arg .given }) (record { sfits = c .before .before .before .before .product-arg2 .given }) (record { sfits = c .before .before .product-arg3 .given }) (record { sfits = c .before .product-arg4 .given }) (c .before .before .before .product .ensures) (c .product2 .ensures) .fits
 
 returns : tie.Need-returns
-returns c = two (c .before .before .before .before .before .before .pre) (c .before .before .before .product .ensures) (c .product2 .ensures) .read
+returns c = two (c .before .before .before .before .before .before .pre) (record { sfits = c .before .before .before .before .before .product-arg .given }) (record { sfits = c .before .before .before .before .product-arg2 .given }) (record { sfits = c .before .before .product-arg3 .given }) (record { sfits = c .before .product-arg4 .given }) (c .before .before .before .product .ensures) (c .product2 .ensures) .read
 
 pub pair-spec : {M : Type 1} → statement M
 pair-spec =

@@ -4,7 +4,7 @@ use Prim.Native.Nat.{_-_, _*_, _≤_}
 use native.Mathlib.Omega.{arith}
 use lib.ListN.{length}
 use lib.Seq.{length-take-le}
-use Rattle.states.specs.Lent.{Lent, Roomy}
+use Rattle.states.specs.Lent.{store, Lent, Roomy}
 use Rattle.driver.specs.Feeds.{Steady}
 use borrow.Author.Needs.{needs}
 use Rattle.driver.proofs.run.Statement.{statement}
@@ -12,7 +12,7 @@ use Rattle.driver.proofs.run.Tie as tie
 
 abbrev Inv-loop : tie.InvT-loop
 Inv-loop fd line₀ a₀ t1₀ d1₀ s1₀ t2₀ d2₀ s2₀ out₀ chunk₀ feed₀ turns₀ t16 line a t1 d1 s1 t2 d2 s2 out chunk feed turns =
-    Steady feed line × (feed .run .line ≤ turns * 65536) × (turns ≤ 35184372088832) × Lent (record { A = a; T₁ = t1; D₁ = d1; S₁ = s1; T₂ = t2; D₂ = d2; S₂ = s2 }) × Roomy out × (length chunk ≡ 65536)
+    Steady feed line × (feed .run .line ≤ turns * 65536) × (turns ≤ 35184372088832) × Lent (store a t1 d1 s1 t2 d2 s2) × Roomy out × (length chunk ≡ 65536)
 
 abbrev μ-loop : tie.MeasureT-loop
 μ-loop fd line₀ a₀ t1₀ d1₀ s1₀ t2₀ d2₀ s2₀ out₀ chunk₀ feed₀ turns₀ t16 line a t1 d1 s1 t2 d2 s2 out chunk feed turns =

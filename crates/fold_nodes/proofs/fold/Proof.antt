@@ -1,10 +1,10 @@
 -- `fold_nodes::fold` meets its contract: refused by the calls, or T, D and S copied from what they left.
 use borrow.Author.Needs.{needs}
 use mathlib.Core.Path.{_≡_, refl, sym, _∙_, ap}
-use Prim.Native.Nat.{_*_}
 use lib.IntN.{pos}
 use Rattle.settings.specs.Settings.{Parameters, parametersOf}
 use Rattle.lova.specs.Answers.{verdictOf, ends}
+use Rattle.lova.specs.Stored.{matrixT, matrixS, matrixD}
 use Rattle.chain.specs.Nodes.{Node, nodeOf, callsOf}
 use Rattle.copies.proofs.Blanks.{blank, blank-long, Back, back}
 use Rattle.chain.proofs.Sizes.{Sizes, sizes}
@@ -32,13 +32,13 @@ start c = c .before .before .before .before .before .before .before .before .bef
 abbrev left : tie.After-calls → Node
 left c = nodeOf (c .calls .last .1 .1 .1 .1 .1 .1 .1 .1 .1 .0) (c .calls .last .1 .1 .1 .1 .1 .1 .1 .1 .1 .1 .0) (c .calls .last .1 .1 .1 .1 .1 .1 .1 .1 .1 .1 .1 .0)
 
-T-back : (c : tie.After-calls) → Back (p (start c) .n * p (start c) .t) 16 0 (left c .instance .T)
+T-back : (c : tie.After-calls) → Back (matrixT (p (start c)) .size) 16 0 (left c .instance .T)
 T-back c = back _ 16 0 _ (big (start c) .T-high) (c .calls .kept .1 .1 .1 .1 .1 .1 .1 .1 .1 .0)
 
-D-back : (c : tie.After-calls) → Back (p (start c) .t * p (start c) .t) 4 (pos 0) (left c .instance .D)
+D-back : (c : tie.After-calls) → Back (matrixD (p (start c)) .size) 4 (pos 0) (left c .instance .D)
 D-back c = back _ 4 (pos 0) _ (big (start c) .D-high) (c .calls .kept .1 .1 .1 .1 .1 .1 .1 .1 .1 .1 .0)
 
-S-back : (c : tie.After-calls) → Back (p (start c) .m * p (start c) .t) 32 (pos 0) (left c .witness)
+S-back : (c : tie.After-calls) → Back (matrixS (p (start c)) .size) 32 (pos 0) (left c .witness)
 S-back c = back _ 32 (pos 0) _ (big (start c) .S-high) (c .calls .kept .1 .1 .1 .1 .1 .1 .1 .1 .1 .1 .1 .0)
 
 made : (c : tie.After-calls) →

@@ -9,7 +9,7 @@ use Rattle.settings.specs.Rules.{Rule}
 use Rattle.settings.specs.Settings.{Parameters, parametersOf}
 use Rattle.lova.specs.Answers.{done, answerOf, Outcome, ends}
 use Rattle.lova.specs.Stored.{Instance}
-use Rattle.lova.specs.Calls.{JoinLengths}
+use Rattle.lova.specs.Calls.{JoinLengths, Rebuilt}
 use Rattle.lova.specs.Join.{joinRules, joinedInstance, join}
 use Rattle.lova.proofs.Refusals.{join-proper}
 use Rattle.lova.proofs.Rebuilding.{rebuilt, rebuilt-accepted}
@@ -33,42 +33,42 @@ rules s p = joinRules p (first s) (second s) (s .args .v .now) (out s)
 abbrev result : tie.Start → Parameters → Outcome Instance
 result s p = ends done (joinedInstance p (first s) (second s) (s .args .v .now))
 
-abbrev start : tie.After-new → tie.Start
+abbrev start : tie.After-rebuilt → tie.Start
 start c = c .before .before .before .before
 
 -- the constructor's call before a call of the refusal
-abbrev fresh : tie.Else2 → tie.After-new
+abbrev fresh : tie.Else2 → tie.After-rebuilt
 fresh c = c .before .before .before .before .before .before
 
 -- the setting is accepted
-none : (c : tie.Else2) → fresh c .new .result .refusal ≡ 0
+none : (c : tie.Else2) → fresh c .rebuilt .result .refusal ≡ 0
 none c = omega arith
 
 -- where no rule applies, each slice has the length of its matrix
 lengths : (c : tie.Else2) →
     let s = start (fresh c) in
-    JoinLengths (parametersOf (fresh c .new .result .setting)) (first s) (second s) (s .args .v .now) (out s)
+    JoinLengths (parametersOf (fresh c .rebuilt .result .setting)) (first s) (second s) (s .args .v .now) (out s)
 lengths c =
     let n = fresh c in
     let s = start n in
-    let p = parametersOf (n .new .result .setting) in
+    let p = parametersOf (n .rebuilt .result .setting) in
     join-proper p (first s) (second s) (s .args .v .now) (out s) .0
-    (none-applied (rules s) (out s) (result s) (parametersOf (s .args .setting)) (n .new .result) (n .new .ensures) (none c) (c .before .join-refusal .result) (c .before .join-refusal .ensures) (c .if2 .left)) .lengths
+    (none-applied (rules s) (out s) (result s) (parametersOf (s .args .setting)) (n .rebuilt .result) (n .rebuilt .ensures) (none c) (c .before .join-refusal .result) (c .before .join-refusal .ensures) (c .if2 .left)) .lengths
 
-new-requires : tie.Need-new-requires
-new-requires c κs = search needs
+rebuilt-requires : tie.Need-rebuilt-requires
+rebuilt-requires c κs = search needs
 
 returns : tie.Need-returns
 unfolding join answerOf
 returns c =
     let n = c .before in
     let s = start n in
-    out-by-setting (rules s) (out s) (result s) (parametersOf (s .args .setting)) (n .new .result) (n .new .ensures) (c .if1 .taken)
+    out-by-setting (rules s) (out s) (result s) (parametersOf (s .args .setting)) (n .rebuilt .result) (n .rebuilt .ensures) (c .if1 .taken)
 
 join-refusal-requires : tie.Need-join-refusal-requires
 join-refusal-requires c κs =
     let n = c .before .before .before .before in
-    rebuilt (parametersOf (start n .args .setting)) (n .new .result) (n .new .ensures) (omega arith)
+    rebuilt (parametersOf (start n .args .setting)) (n .rebuilt .result) (n .rebuilt .ensures) (omega arith)
 
 same-length : tie.Need-same-length
 same-length c = search needs
@@ -81,13 +81,14 @@ unfolding join answerOf
 returns-2 c =
     let n = c .before .before .before .before .before .before in
     let s = start n in
-    out-by-own (rules s) (out s) (result s) (parametersOf (s .args .setting)) (n .new .result) (n .new .ensures) (omega arith) (c .before .join-refusal .result) (c .before .join-refusal .ensures) (c .if2 .taken)
+    out-by-own (rules s) (out s) (result s) (parametersOf (s .args .setting)) (n .rebuilt .result) (n .rebuilt .ensures) (omega arith) (c .before .join-refusal .result) (c .before .join-refusal .ensures) (c .if2 .taken)
 
--- the joined matrices have at most 32 columns
-narrow : (c : tie.Else2) → 2 * fresh c .new .result .setting .t ≤ 32
-narrow c =
-    let n = fresh c in
-    omega (arith, rebuilt-accepted (n .new .result .setting) (rebuilt (parametersOf (start n .args .setting)) (n .new .result) (n .new .ensures) (none c)) .t-high)
+-- the new setting is the constructor's, and the joined matrices have at most 32 columns
+again : (c : tie.Else2) → Rebuilt (fresh c .rebuilt .result .setting)
+again c = let n = fresh c in rebuilt (parametersOf (start n .args .setting)) (n .rebuilt .result) (n .rebuilt .ensures) (none c)
+
+narrow : (c : tie.Else2) → 2 * fresh c .rebuilt .result .setting .t ≤ 32
+narrow c = omega (arith, rebuilt-accepted (fresh c .rebuilt .result .setting) (again c) .t-high)
 
 write-t-requires : tie.Need-write-t-requires
 write-t-requires c κs = let l = lengths (c .before) in (l .0 .0, l .1 .0, l .3 .0, omega (arith, narrow (c .before)))
@@ -96,7 +97,7 @@ write-d-requires : tie.Need-write-d-requires
 write-d-requires c κs =
     let e = c .before .before .before .before .before in
     let l = lengths e in
-    (l .0 .1, l .2, l .1 .1, l .3 .1, omega (arith, narrow e))
+    (again e, l .3 .1, l .0 .1, l .2, l .1 .1)
 
 same-length-3 : tie.Need-same-length-3
 same-length-3 c = search needs
@@ -112,13 +113,13 @@ returns-3 c =
     let n = fresh e in
     let s = start n in
     ap₂ (λ (t : List ℕ) (d : List ℤ). ends done (record { T = t; D = d })) (w .before .before .before .before .write-t .ensures) (w .write-d .ensures)
-    ∙ out-at-end (rules s) (out s) (result s) (parametersOf (s .args .setting)) (n .new .result) (n .new .ensures) (none e) (e .before .join-refusal .result) (e .before .join-refusal .ensures) (e .if2 .left)
+    ∙ out-at-end (rules s) (out s) (result s) (parametersOf (s .args .setting)) (n .rebuilt .result) (n .rebuilt .ensures) (none e) (e .before .join-refusal .result) (e .before .join-refusal .ensures) (e .if2 .left)
 
 pub join-spec : {M : Type 1} → statement M
 join-spec =
     tie.close
     (tie.spec
-    new-requires
+    rebuilt-requires
     returns
     join-refusal-requires
     same-length

@@ -2,6 +2,7 @@
 use borrow.Author.Needs.{needs}
 use mathlib.Core.Path.{_∙_, ap}
 use mathlib.Core.List.{List}
+use native.Mathlib.Omega.{arith}
 use Rattle.settings.specs.Rules.{Rule}
 use Rattle.settings.specs.Settings.{Parameters, parametersOf}
 use Rattle.lova.specs.Answers.{done, answerOf, Outcome, ends}
@@ -27,28 +28,28 @@ module _ (s : tie.Start) where
   result p = ends done (preparedOf p (s .args .a .now) (s .args .s1 .now) (s .args .s2 .now))
 
 -- the entry, and the setting that was built anew
-abbrev start : tie.After-new → tie.Start
+abbrev start : tie.After-rebuilt → tie.Start
 start c = c .before .before .before
 
-abbrev anew : tie.After-new → Parameters
-anew c = parametersOf (c .new .result .setting)
+abbrev anew : tie.After-rebuilt → Parameters
+anew c = parametersOf (c .rebuilt .result .setting)
 
 abbrev else-1 : tie.Else2 → tie.Else1
 else-1 c = c .before .before .before .before .before .before .before
 
-new-requires : tie.Need-new-requires
-new-requires c κs = search needs
+rebuilt-requires : tie.Need-rebuilt-requires
+rebuilt-requires c κs = search needs
 
 returns : tie.Need-returns
 unfolding message answerOf
 returns c =
     let n = c .before in
     let s = start n in
-    out-by-setting (rules s) (out s) (result s) (parametersOf (s .args .setting)) (n .new .result) (n .new .ensures) (c .if1 .taken)
+    out-by-setting (rules s) (out s) (result s) (parametersOf (s .args .setting)) (n .rebuilt .result) (n .rebuilt .ensures) (c .if1 .taken)
 
 -- the new setting is accepted
-again : (c : tie.Else1) → Rebuilt (c .before .new .result .setting)
-again c = rebuilt (parametersOf (start (c .before) .args .setting)) (c .before .new .result) (c .before .new .ensures) (c .if1 .left)
+again : (c : tie.Else1) → Rebuilt (c .before .rebuilt .result .setting)
+again c = rebuilt (parametersOf (start (c .before) .args .setting)) (c .before .rebuilt .result) (c .before .rebuilt .ensures) (c .if1 .left)
 
 message-refusal-requires : tie.Need-message-refusal-requires
 message-refusal-requires c κs = again (c .before .before .before .before .before)
@@ -72,7 +73,7 @@ returns-2 c =
     let e = w .before .before .before .before .before .before in
     let n = e .before in
     let s = start n in
-    out-by-own (rules s) (out s) (result s) (parametersOf (s .args .setting)) (n .new .result) (n .new .ensures) (e .if1 .left) (w .message-refusal .result) (w .message-refusal .ensures) (c .if2 .taken)
+    out-by-own (rules s) (out s) (result s) (parametersOf (s .args .setting)) (n .rebuilt .result) (n .rebuilt .ensures) (e .if1 .left) (w .message-refusal .result) (w .message-refusal .ensures) (c .if2 .taken)
 
 -- past the refusals the call is proper
 proper : (c : tie.Else2) →
@@ -83,15 +84,15 @@ proper c =
     let n = else-1 c .before in
     let s = start n in
     message-proper (anew n) (s .args .a .now) (s .args .s1 .now) (s .args .s2 .now) (out s) .0
-    (none-applied (rules s) (out s) (result s) (parametersOf (s .args .setting)) (n .new .result) (n .new .ensures) (else-1 c .if1 .left) (c .before .message-refusal .result) (c .before .message-refusal .ensures) (c .if2 .left))
+    (none-applied (rules s) (out s) (result s) (parametersOf (s .args .setting)) (n .rebuilt .result) (n .rebuilt .ensures) (else-1 c .if1 .left) (c .before .message-refusal .result) (c .before .message-refusal .ensures) (c .if2 .left))
 
 cross-products-requires : tie.Need-cross-products-requires
 cross-products-requires c κs =
     let e = c .before in
     let n = else-1 e .before in
     let s = start n in (
-      cross-lengths (n .new .result .setting) (again (else-1 e)) (s .args .a .now) (s .args .s1 .now) (s .args .s2 .now) (out s) (proper e),
-      cross-sizes (n .new .result .setting) (again (else-1 e)) (s .args .a .now) (s .args .s1 .now) (s .args .s2 .now) (out s) (proper e),
+      cross-lengths (n .rebuilt .result .setting) (again (else-1 e)) (s .args .a .now) (s .args .s1 .now) (s .args .s2 .now) (out s) (proper e),
+      cross-sizes (n .rebuilt .result .setting) (again (else-1 e)) (s .args .a .now) (s .args .s1 .now) (s .args .s2 .now) (out s) (proper e),
     )
 
 write-witness-requires : tie.Need-write-witness-requires
@@ -99,21 +100,21 @@ write-witness-requires c κs =
     let e = c .before .before .before .before in
     let n = else-1 e .before in
     let s = start n in
-    (again (else-1 e), witness-lengths (n .new .result .setting) (again (else-1 e)) (s .args .a .now) (s .args .s1 .now) (s .args .s2 .now) (out s) (proper e))
+    ((again (else-1 e), omega arith), witness-lengths (n .rebuilt .result .setting) (again (else-1 e)) (s .args .a .now) (s .args .s1 .now) (s .args .s2 .now) (out s) (proper e))
 
 commitment-requires : tie.Need-commitment-requires
 commitment-requires c κs =
     let e = c .before .before .before .before .before .before .before .before in
     let n = else-1 e .before in
     let s = start n in
-    commitment-lengths (n .new .result .setting) (again (else-1 e)) (s .args .a .now) (s .args .s1 .now) (s .args .s2 .now) (out s) (proper e) _ (c .before .before .before .write-witness .ensures)
+    commitment-lengths (n .rebuilt .result .setting) (again (else-1 e)) (s .args .a .now) (s .args .s1 .now) (s .args .s2 .now) (out s) (proper e) _ (c .before .before .before .write-witness .ensures)
 
 small-gram-requires : tie.Need-small-gram-requires
 small-gram-requires c κs =
     let e = c .before .before .before .before .before .before .before .before .before .before .before .before .before in
     let n = else-1 e .before in
     let s = start n in
-    gram-asks (n .new .result .setting) (again (else-1 e)) (s .args .a .now) (s .args .s1 .now) (s .args .s2 .now) (out s) (proper e) _ (c .before .before .before .before .before .before .before .before .write-witness .ensures)
+    gram-asks (n .rebuilt .result .setting) (again (else-1 e)) (s .args .a .now) (s .args .s1 .now) (s .args .s2 .now) (out s) (proper e) _ (c .before .before .before .before .before .before .before .before .write-witness .ensures)
 
 same-length-5 : tie.Need-same-length-5
 same-length-5 c = search needs
@@ -134,14 +135,14 @@ returns-3 c =
     let n = else-1 e .before in
     let s = start n in
     ap (λ (x : Prepared). ends done x)
-    (prepared-is (n .new .result .setting) (again (else-1 e)) (s .args .a .now) (s .args .s1 .now) (s .args .s2 .now) (out s) (proper e) _ (c .before .before .before .before .before .before .before .before .before .before .write-witness .ensures) _ _ _ (c .before .before .before .before .before .before .before .before .before .before .before .before .before .cross-products .ensures) (c .before .before .before .before .before .before .commitment .ensures) (c .before .small-gram .ensures))
-    ∙ out-at-end (rules s) (out s) (result s) (parametersOf (s .args .setting)) (n .new .result) (n .new .ensures) (else-1 e .if1 .left) (e .before .message-refusal .result) (e .before .message-refusal .ensures) (e .if2 .left)
+    (prepared-is (n .rebuilt .result .setting) (again (else-1 e)) (s .args .a .now) (s .args .s1 .now) (s .args .s2 .now) (out s) (proper e) _ (c .before .before .before .before .before .before .before .before .before .before .write-witness .ensures) _ _ _ (c .before .before .before .before .before .before .before .before .before .before .before .before .before .cross-products .ensures) (c .before .before .before .before .before .before .commitment .ensures) (c .before .small-gram .ensures))
+    ∙ out-at-end (rules s) (out s) (result s) (parametersOf (s .args .setting)) (n .rebuilt .result) (n .rebuilt .ensures) (else-1 e .if1 .left) (e .before .message-refusal .result) (e .before .message-refusal .ensures) (e .if2 .left)
 
 pub message-spec : {M : Type 1} → statement M
 message-spec =
     tie.close
     (tie.spec
-    new-requires
+    rebuilt-requires
     returns
     message-refusal-requires
     same-length

@@ -1,16 +1,13 @@
--- `relations::commitment_holds` meets its contract: a s is made in the front of an array, and compared with t.
-use mathlib.Core.Path.{_≡_, sym, _∙_}
-use mathlib.Core.List.{List, _++_}
-use Prim.Native.Nat.{ℕ, _*_, _≤_}
+-- `relations::commitment_holds` meets its contract: either array has room for a s.
+use borrow.Author.Needs.{needs}
+use mathlib.Core.Path.{sym}
+use Prim.Native.Nat.{_*_, _≤_}
 use native.Mathlib.Omega.{arith}
-use lib.ListN.{length, drop, replicate, length-replicate}
-use Rattle.matrices.specs.Matrices.{product}
-use Rattle.matrices.specs.Tables.{signed, unsigned}
-use Rattle.relations.proofs.Tables.{room, front, written, words-front}
+use Rattle.relations.proofs.Tables.{room, front}
 use Rattle.relations.proofs.commitment_holds.Statement.{statement}
 use Rattle.relations.proofs.commitment_holds.Tie as tie
 
--- the function's entry, and the array's room for the product
+-- the function's entry, and the larger array's room for every product
 abbrev start : tie.After-shared-slice-known2 → tie.Start
 start c = c .before .before
 
@@ -21,47 +18,34 @@ mul-size : tie.Need-mul-size
 mul-size c = omega (arith, fits c)
 
 array-borrow-prefix-own : tie.Need-array-borrow-prefix-own
-array-borrow-prefix-own c = fits c
+array-borrow-prefix-own c = c .if1 .taken
 
-slice-aggregate-commitment : tie.Need-slice-aggregate-commitment
-slice-aggregate-commitment c = let a = start (c .before) .args in sym (front (a .rows * a .cols) (replicate 1024 0) 1024 (length-replicate {A = ℕ} 1024 0) (fits (c .before)))
+slice-aggregate-commitment-holds-in : tie.Need-slice-aggregate-commitment-holds-in
+slice-aggregate-commitment-holds-in c = let few = c .before in sym (front 0 _ 64 (few .if1 .taken))
 
-commitment-requires : tie.Need-commitment-requires
-commitment-requires c κs =
-    let s = start (c .before) in
-    (s .pre .0, s .pre .2, front (s .args .rows * s .args .cols) (replicate 1024 0) 1024 (length-replicate {A = ℕ} 1024 0) (fits (c .before)))
+commitment-holds-in-requires : tie.Need-commitment-holds-in-requires
+commitment-holds-in-requires c κs =
+    let few = c .before in
+    let h = start (few .before) .pre in
+    (h .0, h .1, h .2, front 0 _ 64 (few .if1 .taken))
 
--- what was made, and the array that it is in
-abbrev made : tie.After-commitment → List ℕ
-made c = c .commitment .last .1 .1 .1 .1 .1 .0
+array-borrow-prefix-own-2 : tie.Need-array-borrow-prefix-own-2
+array-borrow-prefix-own-2 c = fits (c .before)
 
-long : (c : tie.After-commitment) → let a = start (c .before .before) .args in length (made c ++ drop (a .rows * a .cols) (replicate 1024 0)) ≡ 1024
-long c =
-    let a = start (c .before .before) .args in
-    written (a .rows * a .cols) (replicate 1024 0) (made c) (c .commitment .kept .1 .1 .1 .1 .1 .0) ∙ length-replicate {A = ℕ} 1024 0
+slice-aggregate-commitment-holds-in-2 : tie.Need-slice-aggregate-commitment-holds-in-2
+slice-aggregate-commitment-holds-in-2 c = sym (front 0 _ 1024 (fits (c .before .before)))
 
-array-share-prefix-own : tie.Need-array-share-prefix-own
-array-share-prefix-own c = omega (arith, fits (c .before .before .before), long (c .before))
-
-slice-aggregate-words-equal : tie.Need-slice-aggregate-words-equal
-slice-aggregate-words-equal c =
-    let p = c .before .before in
-    let a = start (p .before .before) .args in
-    sym (front (a .rows * a .cols) (made p ++ drop (a .rows * a .cols) (replicate 1024 0)) 1024 (long p) (fits (p .before .before)))
-
-words-equal-requires : tie.Need-words-equal-requires
-words-equal-requires c κs =
-    let p = c .before .before in
-    let s = start (p .before .before) in
-    let a = s .args in
-    (front (a .rows * a .cols) (made p ++ drop (a .rows * a .cols) (replicate 1024 0)) 1024 (long p) (fits (p .before .before)), s .pre .1)
+commitment-holds-in-requires-2 : tie.Need-commitment-holds-in-requires-2
+commitment-holds-in-requires-2 c κs =
+    let s = c .before .before in
+    let h = start s .pre in
+    (h .0, h .1, h .2, front 0 _ 1024 (fits s))
 
 returns : tie.Need-returns
-returns c =
-    let p = c .before .before .before in
-    let a = start (p .before .before) .args in
-    c .words-equal .ensures
-    ∙ words-front (a .rows) (a .cols) (product (a .m) (unsigned (a .m) (a .a .now)) (signed (a .cols) (a .s .now))) (unsigned (a .cols) (a .t .now)) (made p) (drop (a .rows * a .cols) (replicate 1024 0)) (p .commitment .ensures)
+returns c = search needs
+
+returns-2 : tie.Need-returns-2
+returns-2 c = search needs
 
 pub commitment-holds-spec : {M : Type 1} → statement M
 commitment-holds-spec =
@@ -69,9 +53,10 @@ commitment-holds-spec =
     (tie.spec
     mul-size
     array-borrow-prefix-own
-    slice-aggregate-commitment
-    commitment-requires
-    array-share-prefix-own
-    slice-aggregate-words-equal
-    words-equal-requires
-    returns)
+    slice-aggregate-commitment-holds-in
+    commitment-holds-in-requires
+    array-borrow-prefix-own-2
+    slice-aggregate-commitment-holds-in-2
+    commitment-holds-in-requires-2
+    returns
+    returns-2)

@@ -4,7 +4,6 @@ use borrow.Author.Tests.{not-true, not-false}
 use mathlib.Core.Path.{_≡_, refl, sym, ap, subst, _∙_}
 use mathlib.Core.Bool.{Bool, true, false}
 use mathlib.Core.List.{List}
-use native.Mathlib.Nat.{le-trans}
 use lib.Dec.{T}
 use Rattle.settings.specs.Rules.{Rule}
 use Rattle.settings.specs.Settings.{Parameters, parametersOf}
@@ -32,27 +31,27 @@ module _ (s : tie.Start) where
   answer p = ends (memberWord (short p (s .args .s .now)) (productsHold p lent (s .args .s .now)) (commitmentHolds p (s .args .a .now) lent (s .args .s .now))) tt
 
 -- the entry, and the setting that was built anew
-abbrev start : tie.After-new → tie.Start
+abbrev start : tie.After-rebuilt → tie.Start
 start c = c .before .before .before
 
-abbrev anew : tie.After-new → Parameters
-anew c = parametersOf (c .new .result .setting)
+abbrev anew : tie.After-rebuilt → Parameters
+anew c = parametersOf (c .rebuilt .result .setting)
 
-abbrev new-at : tie.Else2 → tie.After-new
+abbrev new-at : tie.Else2 → tie.After-rebuilt
 new-at c = c .before .before .before .before
 
-new-requires : tie.Need-new-requires
-new-requires c κs = search needs
+rebuilt-requires : tie.Need-rebuilt-requires
+rebuilt-requires c κs = search needs
 
 returns : tie.Need-returns
 unfolding membershipOf relation
 returns c =
     let s = start (c .before) in
-    ap (λ (o : Outcome (Unit {0})). o .answer) (out-by-setting (rules s) tt (answer s) (parametersOf (s .args .setting)) (c .before .new .result) (c .before .new .ensures) (c .if1 .taken))
+    ap (λ (o : Outcome (Unit {0})). o .answer) (out-by-setting (rules s) tt (answer s) (parametersOf (s .args .setting)) (c .before .rebuilt .result) (c .before .rebuilt .ensures) (c .if1 .taken))
 
 -- the new setting is accepted
-again : (c : tie.Else1) → Rebuilt (c .before .new .result .setting)
-again c = rebuilt (parametersOf (start (c .before) .args .setting)) (c .before .new .result) (c .before .new .ensures) (c .if1 .left)
+again : (c : tie.Else1) → Rebuilt (c .before .rebuilt .result .setting)
+again c = rebuilt (parametersOf (start (c .before) .args .setting)) (c .before .rebuilt .result) (c .before .rebuilt .ensures) (c .if1 .left)
 
 relation-refusal-requires : tie.Need-relation-refusal-requires
 relation-refusal-requires c κs = again (c .before)
@@ -63,7 +62,7 @@ returns-2 c =
     let n = c .before .before .before .before in
     let s = start n in
     ap (λ (o : Outcome (Unit {0})). o .answer)
-    (out-by-own (rules s) tt (answer s) (parametersOf (s .args .setting)) (n .new .result) (n .new .ensures) (c .before .before .before .if1 .left) (c .before .relation-refusal .result) (c .before .relation-refusal .ensures) (c .if2 .taken))
+    (out-by-own (rules s) tt (answer s) (parametersOf (s .args .setting)) (n .rebuilt .result) (n .rebuilt .ensures) (c .before .before .before .if1 .left) (c .before .relation-refusal .result) (c .before .relation-refusal .ensures) (c .if2 .taken))
 
 -- past the refusals the slices have their lengths, and the answer is the word of the three tests
 lengths : (c : tie.Else2) → RelationLengths (anew (new-at c)) (start (new-at c) .args .a .now) (lent (start (new-at c))) (start (new-at c) .args .s .now)
@@ -71,7 +70,7 @@ lengths c =
     let n = new-at c in
     let s = start n in
     relation-proper (anew n) (s .args .a .now) (lent s) (s .args .s .now) .0
-    (none-applied (rules s) tt (answer s) (parametersOf (s .args .setting)) (n .new .result) (n .new .ensures) (c .before .before .before .if1 .left) (c .before .relation-refusal .result) (c .before .relation-refusal .ensures) (c .if2 .left)) .lengths
+    (none-applied (rules s) tt (answer s) (parametersOf (s .args .setting)) (n .rebuilt .result) (n .rebuilt .ensures) (c .before .before .before .if1 .left) (c .before .relation-refusal .result) (c .before .relation-refusal .ensures) (c .if2 .left)) .lengths
 
 answers : (c : tie.Else2) → answer (start (new-at c)) (anew (new-at c)) .answer ≡ (relation (parametersOf (start (new-at c) .args .setting)) (start (new-at c) .args .a .now) (lent (start (new-at c))) (start (new-at c) .args .s .now)) .answer
 unfolding relation
@@ -79,7 +78,7 @@ answers c =
     let n = new-at c in
     let s = start n in
     ap (λ (o : Outcome (Unit {0})). o .answer)
-    (out-at-end (rules s) tt (answer s) (parametersOf (s .args .setting)) (n .new .result) (n .new .ensures) (c .before .before .before .if1 .left) (c .before .relation-refusal .result) (c .before .relation-refusal .ensures) (c .if2 .left))
+    (out-at-end (rules s) tt (answer s) (parametersOf (s .args .setting)) (n .rebuilt .result) (n .rebuilt .ensures) (c .before .before .before .if1 .left) (c .before .relation-refusal .result) (c .before .relation-refusal .ensures) (c .if2 .left))
 
 columns-within-requires : tie.Need-columns-within-requires
 columns-within-requires c κs = lengths c .2
@@ -137,8 +136,7 @@ products-hold-requires c κs =
     let e = c .before .before in
     let n = new-at e in
     let short : Short (anew n) (start n .args .s .now) = short-iff (anew n) (start n .args .s .now) .0 (subst T (sym (passed-short c)) tt) in
-    let accepted = rebuilt-accepted (n .new .result .setting) (again (e .before .before .before)) in
-    ((lengths e .1 .1, lengths e .2, accepted .t-high), λ j h. le-trans (short j h) (accepted .bound-high))
+    (again (e .before .before .before), lengths e .1 .1, lengths e .2, short)
 
 returns-4 : tie.Need-returns-4
 unfolding membershipOf
@@ -148,7 +146,7 @@ commitment-holds-requires : tie.Need-commitment-holds-requires
 commitment-holds-requires c κs =
     let e = c .before .before .before .before in
     let l = lengths e in
-    let accepted = rebuilt-accepted (new-at e .new .result .setting) (again (e .before .before .before)) in
+    let accepted = rebuilt-accepted (new-at e .rebuilt .result .setting) (again (e .before .before .before)) in
     (l .0, l .1 .0, l .2, accepted .n-high, accepted .t-high)
 
 returns-5 : tie.Need-returns-5
@@ -167,7 +165,7 @@ pub test-relation-spec : {M : Type 1} → statement M
 test-relation-spec =
     tie.close
     (tie.spec
-    new-requires
+    rebuilt-requires
     returns
     relation-refusal-requires
     returns-2

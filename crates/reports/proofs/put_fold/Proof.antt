@@ -6,7 +6,7 @@ use native.Mathlib.Omega.{arith}
 use lib.ListN.{length}
 use Rattle.numerals.specs.Numerals.{decimal}
 use Rattle.lova.specs.Answers.{verdictOf}
-use Rattle.chain.specs.Reports.{foldWord, wordOf, instanceFields, foldLine}
+use Rattle.chain.specs.Reports.{foldWord, wordOf, instanceFields, foldText}
 use Rattle.field_writers.proofs.Puts.{put-word, put-fields, put-rest}
 use Rattle.reports.proofs.put_fold.Statement.{statement}
 use Rattle.reports.proofs.put_fold.Tie as tie
@@ -30,7 +30,7 @@ same-length : tie.Need-same-length
 same-length c = search needs
 
 returns : tie.Need-returns
-unfolding foldLine
+unfolding foldText
 returns c =
     let s = c .before .before .before .before .before .before .before .before .before .before .before .before .before .before .before .before .before .before .before .args in
     let n = length (s .out .now) in
@@ -44,7 +44,7 @@ returns c =
     (omega (arith, c .before .before .before .before .before .before .before .before .before .before .before .before .before .before .before .before .before .before .before .pre, w .ensures .0, k .ensures .2)) (k .ensures .0) (k .ensures .1) in
     let verdict = put-fields n (k .last .0) (v .last .0) foldWord (decimal (s .number) ∷ []) (said ∷ []) (k .result) (v .result) number
     (omega (arith, c .before .before .before .before .before .before .before .before .before .before .before .before .before .before .before .before .before .before .before .pre, w .ensures .0, k .ensures .2, v .ensures .2)) (v .ensures .0) (v .ensures .1) in
-    put-rest n (v .last .0) (i .last .0) foldWord (decimal (s .number) ∷ said ∷ []) (instanceFields (record { T = s .t .now; D = s .d .now })) (v .result) (i .result) verdict
+    put-rest n (v .last .0) (i .last .0) foldWord (decimal (s .number) ∷ said ∷ []) (instanceFields (s .t .now) (s .d .now)) (v .result) (i .result) verdict
     (omega (arith, c .before .before .before .before .before .before .before .before .before .before .before .before .before .before .before .before .before .before .before .pre, w .ensures .0, k .ensures .2, v .ensures .2, i .ensures .2)) (i .ensures .0) (i .ensures .1)
 
 pub put-fold-spec : {M : Type 1} → statement M

@@ -5,7 +5,7 @@ use mathlib.Core.List.{[], _∷_}
 use native.Mathlib.Omega.{arith}
 use lib.ListN.{length}
 use Rattle.numerals.specs.Numerals.{decimal}
-use Rattle.chain.specs.Reports.{leafWord, instanceFields, leafLine}
+use Rattle.chain.specs.Reports.{leafWord, instanceFields, leafText}
 use Rattle.field_writers.proofs.Puts.{put-word, put-fields, put-rest}
 use Rattle.reports.proofs.put_leaf.Statement.{statement}
 use Rattle.reports.proofs.put_leaf.Tie as tie
@@ -26,7 +26,7 @@ same-length : tie.Need-same-length
 same-length c = search needs
 
 returns : tie.Need-returns
-unfolding leafLine
+unfolding leafText
 returns c =
     let s = c .before .before .before .before .before .before .before .before .before .before .before .before .before .before .before .args in
     let n = length (s .out .now) in
@@ -36,7 +36,7 @@ returns c =
     let word = put-word n (s .out .now) (w .last .0) leafWord (w .result) refl (omega (arith, c .before .before .before .before .before .before .before .before .before .before .before .before .before .before .before .pre)) (w .ensures) in
     let number = put-fields n (w .last .0) (k .last .0) leafWord [] (decimal (s .number) ∷ []) (w .result) (k .result) word
     (omega (arith, c .before .before .before .before .before .before .before .before .before .before .before .before .before .before .before .pre, w .ensures .0, k .ensures .2)) (k .ensures .0) (k .ensures .1) in
-    put-rest n (k .last .0) (i .last .0) leafWord (decimal (s .number) ∷ []) (instanceFields (record { T = s .t .now; D = s .d .now })) (k .result) (i .result) number
+    put-rest n (k .last .0) (i .last .0) leafWord (decimal (s .number) ∷ []) (instanceFields (s .t .now) (s .d .now)) (k .result) (i .result) number
     (omega (arith, c .before .before .before .before .before .before .before .before .before .before .before .before .before .before .before .pre, w .ensures .0, k .ensures .2, i .ensures .2)) (i .ensures .0) (i .ensures .1)
 
 pub put-leaf-spec : {M : Type 1} → statement M

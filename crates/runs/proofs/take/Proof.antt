@@ -1,17 +1,21 @@
 -- `take` meets its contract: a line that is too long is bad, and for any other each arm is the definition's.
 use borrow.Author.Needs.{needs}
-use mathlib.Core.Path.{refl, sym, _∙_}
+use mathlib.Core.Path.{refl, sym, _∙_, ap}
+use mathlib.Core.List.{List}
+use Prim.Native.Nat.{ℕ}
 use mathlib.Core.Logic.{inl, inr}
 use native.Mathlib.Omega.{arith}
-use Rattle.states.specs.Lent.{Store, SetFor, stateOf}
+use Rattle.chain.specs.Nodes.{Node}
+use Rattle.states.specs.Lent.{Store, store, withA, withFirst, withSecond, withLeaf, SetFor, stateOf}
 use Rattle.states.specs.declared.Due.the-variants as Dues
 use Rattle.states.proofs.Steps.{set-for}
-use Rattle.runs.proofs.Lines.{line-bad, take-param, take-matrix, take-first, take-second, take-challenge, take-nothing, store-same}
+use Rattle.runs.proofs.Lines.{line-bad, take-due, take-nothing}
 use Rattle.runs.proofs.take.Statement.{statement}
 use Rattle.runs.proofs.take.Tie as tie
 
-abbrev store : tie.Start → Store
-store s = record { A = s .args .a .now; T₁ = s .args .t1 .now; D₁ = s .args .d1 .now; S₁ = s .args .s1 .now; T₂ = s .args .t2 .now; D₂ = s .args .d2 .now; S₂ = s .args .s2 .now }
+-- what the seven slices hold at entry
+abbrev held : tie.Start → Store
+held s = store (s .args .a .now) (s .args .t1 .now) (s .args .d1 .now) (s .args .s1 .now) (s .args .t2 .now) (s .args .d2 .now) (s .args .s2 .now)
 
 refuse-bad-requires : tie.Need-refuse-bad-requires
 refuse-bad-requires c κs = c .before .before .before .before .before .before .before .pre .0
@@ -23,7 +27,7 @@ returns : tie.Need-returns
 returns c =
     let k = c .before .before .refuse-bad .ensures in
     let s = c .before .before .before .before .before .before .before .before .before .before in
-    (k .0 (store s) ∙ sym (line-bad (stateOf (s .args .state) (store s)) (s .args .line .now) (c .before .before .before .before .if1 .taken)), (k .1, λ e. refl))
+    (k .0 (held s) ∙ sym (line-bad (stateOf (s .args .state) (held s)) (s .args .line .now) (c .before .before .before .before .if1 .taken)), (k .1, λ e. refl))
 
 enum-told : tie.Need-enum-told
 enum-told c = search needs
@@ -43,14 +47,14 @@ enum-told-3 c = search needs
 
 take-requires-3 : tie.Need-take-requires-3
 unfolding SetFor
-take-requires-3 c κs = let s = c .before .before .before .before .before .before .before .before .before .before .before .before .before in (s .pre .0, ((set-for (s .args .state) Dues.First (s .pre .0 .0) (c .before .before .before .before .before .enum-told3 .given .1), inl refl), (s .pre .1 .A, s .pre .1 .T₁, s .pre .1 .D₁, s .pre .1 .S₁)))
+take-requires-3 c κs = let s = c .before .before .before .before .before .before .before .before .before .before .before .before .before in (s .pre .0, ((set-for (s .args .state) Dues.First (s .pre .0 .0) (c .before .before .before .before .before .enum-told3 .given .1), inl (c .before .before .before .before .before .enum-told3 .given .1, refl)), (s .pre .1 .A, s .pre .1 .T₁, s .pre .1 .D₁, s .pre .1 .S₁)))
 
 enum-told-4 : tie.Need-enum-told-4
 enum-told-4 c = search needs
 
 take-requires-4 : tie.Need-take-requires-4
 unfolding SetFor
-take-requires-4 c κs = let s = c .before .before .before .before .before .before .before .before .before .before .before .before .before in (s .pre .0, ((set-for (s .args .state) Dues.Leaf (s .pre .0 .0) (c .before .before .before .before .before .enum-told4 .given .1), inr refl), (s .pre .1 .A, s .pre .1 .T₂, s .pre .1 .D₂, s .pre .1 .S₂)))
+take-requires-4 c κs = let s = c .before .before .before .before .before .before .before .before .before .before .before .before .before in (s .pre .0, ((set-for (s .args .state) Dues.Leaf (s .pre .0 .0) (c .before .before .before .before .before .enum-told4 .given .1), inr (c .before .before .before .before .before .enum-told4 .given .1, refl)), (s .pre .1 .A, s .pre .1 .T₂, s .pre .1 .D₂, s .pre .1 .S₂)))
 
 enum-told-5 : tie.Need-enum-told-5
 enum-told-5 c = search needs
@@ -69,7 +73,8 @@ returns-2 : tie.Need-returns-2
 returns-2 c =
     let k = c .before .before .take in
     let s = c .before .before .before .before .before .before .before .before .before .before .before .before in
-    (take-param (s .args .state) (store s) (s .args .line .now) (c .before .before .before .before .before .before .if1 .left) (k .result) (store s) (k .last .1 .1 .0) (c .before .before .before .before .enum-told .given .1) (k .ensures .0), (k .ensures .1, λ e. refl))
+    let m = held s in
+    (take-due (s .args .state) m (s .args .line .now) (c .before .before .before .before .before .before .if1 .left) Dues.Param (c .before .before .before .before .enum-told .given .1) _ (k .ensures .0 m), (k .ensures .1, λ e. refl))
 
 same-length-3 : tie.Need-same-length-3
 same-length-3 c = c .before .before .before .before .take2 .kept .1 .1 .0
@@ -81,11 +86,8 @@ returns-3 : tie.Need-returns-3
 returns-3 c =
     let k = c .before .before .before .before .take2 in
     let s = c .before .before .before .before .before .before .before .before .before .before .before .before .before .before .before in
-    let m = store s in
-    let A = k .last .1 .1 .0 in (
-      take-matrix (s .args .state) m (s .args .line .now) (c .before .before .before .before .before .before .before .before .before .if1 .left) (k .result) (record { A = A; T₁ = m .T₁; D₁ = m .D₁; S₁ = m .S₁; T₂ = m .T₂; D₂ = m .D₂; S₂ = m .S₂ }) (k .last .1 .1 .1 .0) (c .before .before .before .before .before .before .before .enum-told2 .given .1) (k .ensures .0 m),
-      (k .ensures .1 .0, λ e. store-same m A (m .T₁) (m .D₁) (m .S₁) (m .T₂) (m .D₂) (m .S₂) (k .ensures .1 .1 e) refl refl refl refl refl refl),
-    )
+    let m = held s in
+    (take-due (s .args .state) m (s .args .line .now) (c .before .before .before .before .before .before .before .before .before .if1 .left) Dues.Matrix (c .before .before .before .before .before .before .before .enum-told2 .given .1) _ (k .ensures .0 m), (k .ensures .1 .0, λ e. ap (λ (A : List ℕ). withA A m) (k .ensures .1 .1 e)))
 
 same-length-5 : tie.Need-same-length-5
 same-length-5 c = refl
@@ -103,17 +105,12 @@ same-length-9 : tie.Need-same-length-9
 same-length-9 c = c .before .before .before .before .before .before .take3 .kept .1 .1 .1 .1 .1 .1 .1 .0
 
 returns-4 : tie.Need-returns-4
+unfolding withLeaf
 returns-4 c =
     let k = c .before .before .before .before .before .before .take3 in
     let s = c .before .before .before .before .before .before .before .before .before .before .before .before .before .before .before .before .before .before .before .before in
-    let m = store s in
-    let T = k .last .1 .1 .1 .1 .0 in
-    let D = k .last .1 .1 .1 .1 .1 .0 in
-    let S = k .last .1 .1 .1 .1 .1 .1 .0 in
-    let safe = k .ensures .1 .0 in (
-      take-first (s .args .state) m (s .args .line .now) (c .before .before .before .before .before .before .before .before .before .before .before .before .before .before .if1 .left) (k .result) (record { A = m .A; T₁ = T; D₁ = D; S₁ = S; T₂ = m .T₂; D₂ = m .D₂; S₂ = m .S₂ }) (k .last .1 .1 .1 .1 .1 .1 .1 .0) (c .before .before .before .before .before .before .before .before .before .before .before .before .enum-told3 .given .1) refl (safe .3) (k .ensures .0),
-      ((safe .0, safe .1, safe .2), λ e. let same = k .ensures .1 .1 e in store-same m (m .A) T D S (m .T₂) (m .D₂) (m .S₂) refl (same .0) (same .1) (same .2) refl refl refl),
-    )
+    let m = held s in
+    (take-due (s .args .state) m (s .args .line .now) (c .before .before .before .before .before .before .before .before .before .before .before .before .before .before .if1 .left) _ refl _ (k .ensures .0 m), (k .ensures .1 .0, λ e. ap (λ (z : Node). withFirst z m) (k .ensures .1 .1 e)))
 
 same-length-10 : tie.Need-same-length-10
 same-length-10 c = refl
@@ -131,17 +128,12 @@ same-length-14 : tie.Need-same-length-14
 same-length-14 c = c .before .before .before .before .before .before .take4 .kept .1 .1 .1 .1 .1 .1 .1 .0
 
 returns-5 : tie.Need-returns-5
+unfolding withLeaf
 returns-5 c =
     let k = c .before .before .before .before .before .before .take4 in
     let s = c .before .before .before .before .before .before .before .before .before .before .before .before .before .before .before .before .before .before .before .before in
-    let m = store s in
-    let T = k .last .1 .1 .1 .1 .0 in
-    let D = k .last .1 .1 .1 .1 .1 .0 in
-    let S = k .last .1 .1 .1 .1 .1 .1 .0 in
-    let safe = k .ensures .1 .0 in (
-      take-second (s .args .state) m (s .args .line .now) (c .before .before .before .before .before .before .before .before .before .before .before .before .before .before .if1 .left) (k .result) (record { A = m .A; T₁ = m .T₁; D₁ = m .D₁; S₁ = m .S₁; T₂ = T; D₂ = D; S₂ = S }) (k .last .1 .1 .1 .1 .1 .1 .1 .0) (c .before .before .before .before .before .before .before .before .before .before .before .before .enum-told4 .given .1) refl refl refl refl (safe .3) (k .ensures .0),
-      ((safe .0, safe .1, safe .2), λ e. let same = k .ensures .1 .1 e in store-same m (m .A) (m .T₁) (m .D₁) (m .S₁) T D S refl refl refl refl (same .0) (same .1) (same .2)),
-    )
+    let m = held s in
+    (take-due (s .args .state) m (s .args .line .now) (c .before .before .before .before .before .before .before .before .before .before .before .before .before .before .if1 .left) _ refl _ (k .ensures .0 m), (k .ensures .1 .0, λ e. ap (λ (z : Node). withSecond z m) (k .ensures .1 .1 e)))
 
 same-length-15 : tie.Need-same-length-15
 same-length-15 c = refl
@@ -171,18 +163,13 @@ returns-6 : tie.Need-returns-6
 returns-6 c =
     let k = c .before .before .before .before .before .before .take5 in
     let s = c .before .before .before .before .before .before .before .before .before .before .before .before .before .before .before .before .before .before .before .before .before .before .before in
-    let m = store s in
-    let T = k .last .1 .1 .1 .0 in
-    let D = k .last .1 .1 .1 .1 .0 in
-    let S = k .last .1 .1 .1 .1 .1 .0 in (
-      take-challenge (s .args .state) m (s .args .line .now) (c .before .before .before .before .before .before .before .before .before .before .before .before .before .before .before .before .before .if1 .left) (k .result) (record { A = m .A; T₁ = T; D₁ = D; S₁ = S; T₂ = m .T₂; D₂ = m .D₂; S₂ = m .S₂ }) (k .last .1 .1 .1 .1 .1 .1 .1 .1 .1 .0) (c .before .before .before .before .before .before .before .before .before .before .before .before .before .before .before .enum-told5 .given .1) (k .ensures .0),
-      (k .ensures .1 .0, λ e. let same = k .ensures .1 .1 e in store-same m (m .A) T D S (m .T₂) (m .D₂) (m .S₂) refl (same .0) (same .1) (same .2) refl refl refl),
-    )
+    let m = held s in
+    (take-due (s .args .state) m (s .args .line .now) (c .before .before .before .before .before .before .before .before .before .before .before .before .before .before .before .before .before .if1 .left) Dues.Challenge (c .before .before .before .before .before .before .before .before .before .before .before .before .before .before .before .enum-told5 .given .1) _ (k .ensures .0), (k .ensures .1 .0, λ e. ap (λ (z : Node). withFirst z m) (k .ensures .1 .1 e)))
 
 returns-7 : tie.Need-returns-7
 returns-7 c =
     let s = c .before .before .before .before .before .before .before .before in
-    (take-nothing (s .args .state) (store s) (s .args .line .now) (c .before .before .if1 .left) (s .args .out .now) (c .enum-told6 .given .1), ((s .pre .0 .0, omega arith, omega arith), λ e. refl))
+    (take-nothing (s .args .state) (held s) (s .args .line .now) (c .before .before .if1 .left) (s .args .out .now) (c .enum-told6 .given .1), ((s .pre .0 .0, omega arith, omega arith), λ e. refl))
 
 pub take-spec : {M : Type 1} → statement M
 take-spec =

@@ -8,7 +8,7 @@ use mir.Val.{toZ, ofZ}
 use Rattle.integers.proofs.Sums.{sum-none-yet}
 use Rattle.integers.proofs.Words.{Held}
 use Rattle.dots.specs.Dots.{dots}
-use Rattle.dots.proofs.Trees.{dots-wide, dots-on, dots-read, dots-past}
+use Rattle.dots.proofs.Trees.{steps-fit, dots-wide, dots-on, dots-read, dots-past}
 use Rattle.small_fold.proofs.dot.Statement.{statement}
 use Rattle.small_fold.proofs.dot.Tie as tie
 
@@ -31,13 +31,13 @@ add-thirty-two c = omega (arith, inside c)
 thirty-two-requires : tie.Need-thirty-two-requires Inv-loop μ-loop
 thirty-two-requires c κs =
     let s = c .before .before in
-    record { left = omega (arith, inside c, s .pre .0 .long); right = omega (arith, inside c, s .pre .2); left-small = s .pre .0 .small; right-small = s .pre .1 }
+    record { left = omega (arith, inside c, s .pre .0 .long); right = omega (arith, inside c, s .pre .2); fits = steps-fit (s .args .p .now) (s .args .q .now) 32767 16 (s .pre .0 .small) (s .pre .1) (omega arith) (c .before .loop .k) (s .args .y + c .before .loop .k) }
 
 cast-a : tie.Need-cast-a Inv-loop μ-loop
 cast-a c =
     let s = c .before .before .before in
     let k = c .before .before .loop .k in
-    dots-wide (s .args .p .now) (s .args .q .now) (s .pre .0 .small) (s .pre .1) k (s .args .y + k) (c .thirty-two .ensures) .fits
+    dots-wide (s .args .p .now) (s .args .q .now) k (s .args .y + k) (steps-fit (s .args .p .now) (s .args .q .now) 32767 16 (s .pre .0 .small) (s .pre .1) (omega arith) k (s .args .y + k)) (c .thirty-two .ensures) .fits
 
 -- the sum after a turn
 turn : (c : tie.After-thirty-two Inv-loop μ-loop) →
@@ -47,7 +47,7 @@ turn : (c : tie.After-thirty-two Inv-loop μ-loop) →
 turn c =
     let s = c .before .before .before in
     let l = c .before .before .loop in
-    dots-on (s .args .p .now) (s .args .q .now) (s .pre .0 .small) (s .pre .1) (s .args .y) (l .k) (l .inv .1) (l .inv .2) (c .thirty-two .ensures)
+    dots-on (s .args .p .now) (s .args .q .now) 32767 16 (s .pre .0 .small) (s .pre .1) (omega arith) (s .args .y) (l .k) (l .inv .1) (l .inv .2) (c .thirty-two .ensures)
 
 add-a : tie.Need-add-a Inv-loop μ-loop
 add-a c = turn c .fits
@@ -65,7 +65,7 @@ returns : tie.Need-returns Inv-loop μ-loop
 returns c =
     let s = c .before .before in
     let l = c .before .loop in
-    dots-read (s .args .p .now) (s .args .q .now) (s .pre .0 .small) (s .pre .1) (s .args .y) (l .k) (l .inv .1) (l .inv .2)
+    dots-read (s .args .p .now) (s .args .q .now) 32767 16 (s .pre .0 .small) (s .pre .1) (omega arith) (s .args .y) (l .k) (l .inv .1) (l .inv .2)
     ∙ dots-past (s .args .p .now) (s .args .q .now) (s .args .y) (s .args .n) (l .k) (omega arith) (s .pre .0 .zero)
 
 pub dot-spec : {M : Type 1} → statement M

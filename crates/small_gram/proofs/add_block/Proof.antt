@@ -59,7 +59,7 @@ add-row-requires c κs =
     let F = blockOf (s .args .p .now) in
     let size = lent-size n F (s .args .d .now) i (i * n + i) (i * n + n) (l .loop .d) (c .before .loop-test .taken) refl refl (l .loop .inv .1) (square l) in
     let small = lent-within n F (s .args .d .now) i (i * n + i) (i * n + n) (l .loop .d) (c .before .loop-test .taken) refl refl (l .loop .inv .1) (square l) (2 ^ 61) (s .pre .3) in
-    (s .pre .0, omega (arith, size, s .pre .1), small)
+    ((λ a b ha hb. s .pre .0 a b (omega (arith, size)) (omega (arith, size))), omega (arith, size, s .pre .1), small)
 
 add-i : tie.Need-add-i Inv-loop μ-loop
 add-i c = search needs

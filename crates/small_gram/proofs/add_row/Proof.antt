@@ -1,28 +1,29 @@
 -- `small_gram::add_row` meets its contract: the block's products are added to the first j numbers.
 use borrow.Author.Needs.{needs}
 use mathlib.Core.Path.{_≡_}
-use Prim.Native.Nat.{_+_, _-_, _*_, _^_, _≤_}
+use Prim.Native.Nat.{_+_, _-_, _*_, _^_, _<_, _≤_}
 use native.Mathlib.Omega.{arith}
 use lib.IntN.{ℤ, pos, natAbs, _+ℤ_}
 use lib.ListN.{length, getD}
 use mir.Syntax.{w32, w64}
 use mir.Val.{toZ, ofZ}
 use Rattle.integers.proofs.Words.{Held, read-back}
-use Rattle.small_rows.specs.Rows.{Added}
+use Rattle.matrices.specs.Elements.{exactly, Added}
+use Rattle.matrices.proofs.Elements.{added-none, added-up}
+use Rattle.dots.specs.Dots.{sizesOf}
 use Rattle.small_gram.specs.Halves.{blockOf}
 use Rattle.dots.proofs.Trees.{dots-wide, dots-plus}
-use Rattle.small_rows.proofs.Rows.{added-none, added-more}
 use Rattle.small_gram.proofs.add_row.Statement.{statement}
 use Rattle.small_gram.proofs.add_row.Tie as tie
 
 abbrev Inv-loop : tie.InvT-loop
-Inv-loop p i row₀ j₀ row j = (j ≤ length row₀) × Added (λ j. blockOf p i (i + j)) j row₀ row
+Inv-loop p i row₀ j₀ row j = (j ≤ length row₀) × Added exactly (λ j. blockOf p i (i + j)) 0 j row₀ row
 
 abbrev μ-loop : tie.MeasureT-loop
 μ-loop p i row₀ j₀ row j = length row₀ - j
 
 loop-holds : tie.Need-loop-holds Inv-loop μ-loop
-loop-holds c = (omega arith, added-none (λ j. blockOf (c .args .p .now) (c .args .i) (c .args .i + j)) (c .args .row .now))
+loop-holds c = (omega arith, added-none exactly (λ j. blockOf (c .args .p .now) (c .args .i) (c .args .i + j)) 0 (c .args .row .now))
 
 mul-thirty-two : tie.Need-mul-thirty-two Inv-loop μ-loop
 mul-thirty-two c = omega arith
@@ -33,8 +34,12 @@ add-thirty-two c = search needs
 mul-thirty-two-2 : tie.Need-mul-thirty-two-2 Inv-loop μ-loop
 mul-thirty-two-2 c = omega arith
 
+-- the products that a turn sums fit
+fits : (c : tie.In-loop Inv-loop μ-loop) → let l = c .before in let a = l .before .args in sizesOf (a .p .now) (a .p .now) (a .i * 32) ((a .i + l .loop .j) * 32) 32 < 2 ^ 31
+fits c = let l = c .before in let s = l .before in s .pre .0 (s .args .i) (s .args .i + l .loop .j) (omega (arith, l .loop .inv .1 .long)) (omega (arith, l .loop .inv .1 .long))
+
 thirty-two-requires : tie.Need-thirty-two-requires Inv-loop μ-loop
-thirty-two-requires c κs = search needs
+thirty-two-requires c κs = record { left = omega arith; right = omega arith; fits = fits c }
 
 mul-x : tie.Need-mul-x Inv-loop μ-loop
 mul-x c = search needs
@@ -53,12 +58,11 @@ turn : (c : tie.After-x Inv-loop μ-loop) →
 turn c =
     let l = c .before .before .before in
     let a = l .before .args in
-    let small = l .before .pre .0 in
     let g = getD (l .loop .row) (l .loop .j) (pos 0) in
-    let room : natAbs g ≤ 2 ^ 61 = rw (l .loop .inv .1 .rest (l .loop .j) (omega arith)) (l .before .pre .2 (l .loop .j)) in
+    let room : natAbs g ≤ 2 ^ 61 = rw (l .loop .inv .1 .above (l .loop .j) (omega arith)) (l .before .pre .2 (l .loop .j)) in
     let v = c .before .thirty-two .ensures in (
-      dots-wide (a .p .now) (a .p .now) small small (a .i * 32) ((a .i + l .loop .j) * 32) v,
-      dots-plus (a .p .now) (a .p .now) small small (a .i * 32) ((a .i + l .loop .j) * 32) (read-back w64 g (omega arith)) room v,
+      dots-wide (a .p .now) (a .p .now) (a .i * 32) ((a .i + l .loop .j) * 32) (fits (c .before .before)) v,
+      dots-plus (a .p .now) (a .p .now) (a .i * 32) ((a .i + l .loop .j) * 32) (fits (c .before .before)) (read-back w64 g (omega arith)) room v,
     )
 
 cast-x : tie.Need-cast-x Inv-loop μ-loop
@@ -84,7 +88,7 @@ loop-again c =
     let l = c .before .before .before in
     let a = l .before .args in (
       omega arith,
-      added-more (λ j. blockOf (a .p .now) (a .i) (a .i + j)) (l .loop .j) (a .row .now) (l .loop .row) _ (slice-set-from-x c) (turn c .1 .read) (l .loop .inv .1),
+      added-up exactly (λ j. blockOf (a .p .now) (a .i) (a .i + j)) 0 (l .loop .j) (a .row .now) (l .loop .row) _ (l .loop .inv .1) (slice-set-from-x c) (turn c .1 .read),
     )
 
 same-length : tie.Need-same-length Inv-loop μ-loop

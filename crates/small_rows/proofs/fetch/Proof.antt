@@ -1,4 +1,4 @@
--- `small_rows::fetch` meets its contract: an entry of at most 1024 in size fits 16 bits, and past the last row there is none.
+-- `small_rows::fetch` meets its contract: an entry of at most 32767 in size fits 16 bits, and past the last row there is none.
 use mathlib.Core.Path.{sym}
 use Prim.Native.Nat.{_+_, _*_, _<_}
 use native.Mathlib.Omega.{arith}

@@ -14,7 +14,7 @@ use Rattle.lova.specs.Verdict.{verdictRules, firstHolds, secondHolds, foldedIns
 use Rattle.lova.proofs.Refusals.{verdict-proper}
 use Rattle.lova.proofs.Rebuilding.{rebuilt}
 use Rattle.lova.proofs.WaysOut.{out-by-setting, out-by-own, none-applied, out-at-end}
-use Rattle.verdicts.proofs.Verifying.{commitment-lengths, gram-asks, norm-answer, commitment-answer, yes-answer}
+use Rattle.verdicts.proofs.Verifying.{fold-asks, norm-answer, commitment-answer, yes-answer}
 use Rattle.verdicts.proofs.verify.Statement.{statement}
 use Rattle.verdicts.proofs.verify.Tie as tie
 
@@ -39,28 +39,28 @@ module _ (s : tie.Start) where
   answer p = verdictBy (firstHolds p first second message) (secondHolds p first second message) out (foldedInstance p message (s .args .c .now))
 
 -- the entry, and the setting that was built anew
-abbrev start : tie.After-new → tie.Start
+abbrev start : tie.After-rebuilt → tie.Start
 start c = c .before .before .before .before .before .before
 
-abbrev anew : tie.After-new → Parameters
-anew c = parametersOf (c .new .result .setting)
+abbrev anew : tie.After-rebuilt → Parameters
+anew c = parametersOf (c .rebuilt .result .setting)
 
-abbrev new-at : tie.Else2 → tie.After-new
+abbrev new-at : tie.Else2 → tie.After-rebuilt
 new-at c = c .before .before .before .before .before .before
 
-new-requires : tie.Need-new-requires
-new-requires c κs = search needs
+rebuilt-requires : tie.Need-rebuilt-requires
+rebuilt-requires c κs = search needs
 
 returns : tie.Need-returns
 unfolding verdict verdictOf
 returns c =
     let n = c .before in
     let s = start n in
-    out-by-setting (rules s) (out s) (answer s) (parametersOf (s .args .setting)) (n .new .result) (n .new .ensures) (c .if1 .taken)
+    out-by-setting (rules s) (out s) (answer s) (parametersOf (s .args .setting)) (n .rebuilt .result) (n .rebuilt .ensures) (c .if1 .taken)
 
 -- the new setting is accepted
-again : (c : tie.Else1) → Rebuilt (c .before .new .result .setting)
-again c = rebuilt (parametersOf (start (c .before) .args .setting)) (c .before .new .result) (c .before .new .ensures) (c .if1 .left)
+again : (c : tie.Else1) → Rebuilt (c .before .rebuilt .result .setting)
+again c = rebuilt (parametersOf (start (c .before) .args .setting)) (c .before .rebuilt .result) (c .before .rebuilt .ensures) (c .if1 .left)
 
 abbrev else-1 : tie.Else2 → tie.Else1
 else-1 c = c .before .before .before .before .before
@@ -81,7 +81,7 @@ returns-2 c =
     let e = w .before .before .before .before in
     let n = e .before in
     let s = start n in
-    out-by-own (rules s) (out s) (answer s) (parametersOf (s .args .setting)) (n .new .result) (n .new .ensures) (e .if1 .left) (w .verdict-refusal .result) (w .verdict-refusal .ensures) (c .if2 .taken)
+    out-by-own (rules s) (out s) (answer s) (parametersOf (s .args .setting)) (n .rebuilt .result) (n .rebuilt .ensures) (e .if1 .left) (w .verdict-refusal .result) (w .verdict-refusal .ensures) (c .if2 .taken)
 
 -- past the refusals the call is proper, and the answer is that of the two tests
 proper : (c : tie.Else2) →
@@ -92,7 +92,7 @@ proper c =
     let n = new-at c in
     let s = start n in
     verdict-proper (anew n) (first s) (second s) (message s) (s .args .c .now) (out s) .0
-    (none-applied (rules s) (out s) (answer s) (parametersOf (s .args .setting)) (n .new .result) (n .new .ensures) (else-1 c .if1 .left) (c .before .verdict-refusal .result) (c .before .verdict-refusal .ensures) (c .if2 .left))
+    (none-applied (rules s) (out s) (answer s) (parametersOf (s .args .setting)) (n .rebuilt .result) (n .rebuilt .ensures) (else-1 c .if1 .left) (c .before .verdict-refusal .result) (c .before .verdict-refusal .ensures) (c .if2 .left))
 
 answers : (c : tie.Else2) →
     let n = new-at c in
@@ -102,7 +102,7 @@ unfolding verdict
 answers c =
     let n = new-at c in
     let s = start n in
-    out-at-end (rules s) (out s) (answer s) (parametersOf (s .args .setting)) (n .new .result) (n .new .ensures) (else-1 c .if1 .left) (c .before .verdict-refusal .result) (c .before .verdict-refusal .ensures) (c .if2 .left)
+    out-at-end (rules s) (out s) (answer s) (parametersOf (s .args .setting)) (n .rebuilt .result) (n .rebuilt .ensures) (else-1 c .if1 .left) (c .before .verdict-refusal .result) (c .before .verdict-refusal .ensures) (c .if2 .left)
 
 norm-holds-requires : tie.Need-norm-holds-requires
 norm-holds-requires c κs =
@@ -142,7 +142,7 @@ returns-3 c =
     let e = c .before .before in
     let n = new-at e in
     let s = start n in
-    norm-answer (n .new .result .setting) (again (else-1 e)) (first s) (second s) (message s) (s .args .c .now) (out s) (proper e) (first-is (c .before) ∙ not-true _ (c .if3 .taken))
+    norm-answer (n .rebuilt .result .setting) (again (else-1 e)) (first s) (second s) (message s) (s .args .c .now) (out s) (proper e) (first-is (c .before) ∙ not-true _ (c .if3 .taken))
     ∙ answers e
 
 commitment-holds-requires : tie.Need-commitment-holds-requires
@@ -164,22 +164,15 @@ returns-4 c =
     let e = f .before .before in
     let n = new-at e in
     let s = start n in
-    commitment-answer (n .new .result .setting) (again (else-1 e)) (first s) (second s) (message s) (s .args .c .now) (out s) (proper e) (first-passed f) (second-is (c .before) ∙ not-true _ (c .if4 .taken))
+    commitment-answer (n .rebuilt .result .setting) (again (else-1 e)) (first s) (second s) (message s) (s .args .c .now) (out s) (proper e) (first-passed f) (second-is (c .before) ∙ not-true _ (c .if4 .taken))
     ∙ answers e
 
-fold-commitment-requires : tie.Need-fold-commitment-requires
-fold-commitment-requires c κs =
-    let e = c .before .before .before .before .before in
+fold-instance-requires : tie.Need-fold-instance-requires
+fold-instance-requires c κs =
+    let e = c .before .before .before .before .before .before in
     let n = new-at e in
     let s = start n in
-    commitment-lengths (n .new .result .setting) (again (else-1 e)) (first s) (second s) (message s) (s .args .c .now) (out s) (proper e)
-
-fold-gram-requires : tie.Need-fold-gram-requires
-fold-gram-requires c κs =
-    let e = c .before .before .before .before .before .before .before .before .before in
-    let n = new-at e in
-    let s = start n in
-    gram-asks (n .new .result .setting) (again (else-1 e)) (first s) (second s) (message s) (s .args .c .now) (out s) (proper e)
+    fold-asks (n .rebuilt .result .setting) (again (else-1 e)) (first s) (second s) (message s) (s .args .c .now) (out s) (proper e)
 
 same-length-7 : tie.Need-same-length-7
 same-length-7 c = search needs
@@ -190,19 +183,20 @@ same-length-8 c = search needs
 returns-5 : tie.Need-returns-5
 unfolding verdictOf
 returns-5 c =
-    let last = c .before .before .before .before .before .before .before in
+    let last = c .before .before .before .before .before .before in
     let f = last .before .before in
     let e = f .before .before in
     let n = new-at e in
     let s = start n in
-    yes-answer (n .new .result .setting) (again (else-1 e)) (first s) (second s) (message s) (s .args .c .now) (out s) (proper e) (first-passed f) (second-is (last .before) ∙ not-false _ (last .if4 .left)) _ _ (c .before .before .before .before .before .fold-commitment .ensures) (c .before .fold-gram .ensures)
+    let folded = c .before .before .before .fold-instance .ensures in
+    yes-answer (n .rebuilt .result .setting) (again (else-1 e)) (first s) (second s) (message s) (s .args .c .now) (out s) (proper e) (first-passed f) (second-is (last .before) ∙ not-false _ (last .if4 .left)) _ _ (folded .0) (folded .1)
     ∙ answers e
 
 pub verify-spec : {M : Type 1} → statement M
 verify-spec =
     tie.close
     (tie.spec
-    new-requires
+    rebuilt-requires
     returns
     verdict-refusal-requires
     same-length
@@ -216,8 +210,7 @@ verify-spec =
     same-length-5
     same-length-6
     returns-4
-    fold-commitment-requires
-    fold-gram-requires
+    fold-instance-requires
     same-length-7
     same-length-8
     returns-5)

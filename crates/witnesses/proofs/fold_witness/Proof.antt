@@ -12,7 +12,7 @@ use Rattle.lova.specs.Witness.{witnessRules, foldedWitness, witness}
 use Rattle.lova.proofs.Refusals.{witness-proper}
 use Rattle.lova.proofs.Rebuilding.{rebuilt}
 use Rattle.lova.proofs.WaysOut.{out-by-setting, out-by-own, none-applied, out-at-end}
-use Rattle.witnesses.proofs.Folding.{fold-asks, folded-is}
+use Rattle.witnesses.proofs.Kernel.{fold-asks, folded-is}
 use Rattle.witnesses.proofs.fold_witness.Statement.{statement}
 use Rattle.witnesses.proofs.fold_witness.Tie as tie
 
@@ -25,28 +25,28 @@ module _ (s : tie.Start) where
   result p = ends done (foldedWitness p (matrixS~ p .read (s .args .ss .now)) (s .args .c .now))
 
 -- the entry, and the setting that was built anew
-abbrev start : tie.After-new → tie.Start
+abbrev start : tie.After-rebuilt → tie.Start
 start c = c .before .before
 
-abbrev anew : tie.After-new → Parameters
-anew c = parametersOf (c .new .result .setting)
+abbrev anew : tie.After-rebuilt → Parameters
+anew c = parametersOf (c .rebuilt .result .setting)
 
 abbrev else-1 : tie.Else2 → tie.Else1
 else-1 c = c .before .before .before .before
 
-new-requires : tie.Need-new-requires
-new-requires c κs = search needs
+rebuilt-requires : tie.Need-rebuilt-requires
+rebuilt-requires c κs = search needs
 
 returns : tie.Need-returns
 unfolding witness answerOf
 returns c =
     let n = c .before in
     let s = start n in
-    out-by-setting (rules s) (s .args .s .now) (result s) (parametersOf (s .args .setting)) (n .new .result) (n .new .ensures) (c .if1 .taken)
+    out-by-setting (rules s) (s .args .s .now) (result s) (parametersOf (s .args .setting)) (n .rebuilt .result) (n .rebuilt .ensures) (c .if1 .taken)
 
 -- the new setting is accepted
-again : (c : tie.Else1) → Rebuilt (c .before .new .result .setting)
-again c = rebuilt (parametersOf (start (c .before) .args .setting)) (c .before .new .result) (c .before .new .ensures) (c .if1 .left)
+again : (c : tie.Else1) → Rebuilt (c .before .rebuilt .result .setting)
+again c = rebuilt (parametersOf (start (c .before) .args .setting)) (c .before .rebuilt .result) (c .before .rebuilt .ensures) (c .if1 .left)
 
 witness-refusal-requires : tie.Need-witness-refusal-requires
 witness-refusal-requires c κs = again (c .before .before)
@@ -61,7 +61,7 @@ returns-2 c =
     let e = w .before .before .before in
     let n = e .before in
     let s = start n in
-    out-by-own (rules s) (s .args .s .now) (result s) (parametersOf (s .args .setting)) (n .new .result) (n .new .ensures) (e .if1 .left) (w .witness-refusal .result) (w .witness-refusal .ensures) (c .if2 .taken)
+    out-by-own (rules s) (s .args .s .now) (result s) (parametersOf (s .args .setting)) (n .rebuilt .result) (n .rebuilt .ensures) (e .if1 .left) (w .witness-refusal .result) (w .witness-refusal .ensures) (c .if2 .taken)
 
 -- past the refusals the call is proper
 proper : (c : tie.Else2) →
@@ -72,14 +72,14 @@ proper c =
     let n = else-1 c .before in
     let s = start n in
     witness-proper (anew n) (s .args .ss .now) (s .args .c .now) (s .args .s .now) .0
-    (none-applied (rules s) (s .args .s .now) (result s) (parametersOf (s .args .setting)) (n .new .result) (n .new .ensures) (else-1 c .if1 .left) (c .before .witness-refusal .result) (c .before .witness-refusal .ensures) (c .if2 .left))
+    (none-applied (rules s) (s .args .s .now) (result s) (parametersOf (s .args .setting)) (n .rebuilt .result) (n .rebuilt .ensures) (else-1 c .if1 .left) (c .before .witness-refusal .result) (c .before .witness-refusal .ensures) (c .if2 .left))
 
-small-fold-requires : tie.Need-small-fold-requires
-small-fold-requires c κs =
+fold-digits-requires : tie.Need-fold-digits-requires
+fold-digits-requires c κs =
     let e = c .before in
     let n = else-1 e .before in
     let s = start n in
-    fold-asks (n .new .result .setting) (again (else-1 e)) (s .args .ss .now) (s .args .c .now) (s .args .s .now) (proper e)
+    fold-asks (n .rebuilt .result .setting) (again (else-1 e)) (s .args .ss .now) (s .args .c .now) (s .args .s .now) (proper e)
 
 same-length-2 : tie.Need-same-length-2
 same-length-2 c = search needs
@@ -90,18 +90,18 @@ returns-3 c =
     let e = c .before .before .before in
     let n = else-1 e .before in
     let s = start n in
-    ap (λ (x : List ℤ). ends done x) (folded-is (n .new .result .setting) (again (else-1 e)) (s .args .ss .now) (s .args .c .now) _ (c .before .small-fold .ensures))
-    ∙ out-at-end (rules s) (s .args .s .now) (result s) (parametersOf (s .args .setting)) (n .new .result) (n .new .ensures) (else-1 e .if1 .left) (e .before .witness-refusal .result) (e .before .witness-refusal .ensures) (e .if2 .left)
+    ap (λ (x : List ℤ). ends done x) (folded-is (n .rebuilt .result .setting) (again (else-1 e)) (s .args .ss .now) (s .args .c .now) _ (c .before .fold-digits .ensures))
+    ∙ out-at-end (rules s) (s .args .s .now) (result s) (parametersOf (s .args .setting)) (n .rebuilt .result) (n .rebuilt .ensures) (else-1 e .if1 .left) (e .before .witness-refusal .result) (e .before .witness-refusal .ensures) (e .if2 .left)
 
 pub fold-witness-spec : {M : Type 1} → statement M
 fold-witness-spec =
     tie.close
     (tie.spec
-    new-requires
+    rebuilt-requires
     returns
     witness-refusal-requires
     same-length
     returns-2
-    small-fold-requires
+    fold-digits-requires
     same-length-2
     returns-3)

@@ -1,55 +1,82 @@
--- `word_folds::fold_column` meets its contract: `sum` is that of the first k products, modulo 2^64.
+-- `word_folds::fold_column` meets its contract: `sum` is that of the products from number k on, modulo 2^64.
 use borrow.Author.Needs.{needs}
 use mathlib.Core.Path.{_≡_, sym, _∙_, ap}
-use Prim.Native.Nat.{ℕ, _+_, _*_, _-_, _^_, _<_, _≤_}
+use mathlib.Core.List.{List}
+use Prim.Native.Nat.{ℕ, _+_, _-_, _^_, _≤_}
 use native.Mathlib.Omega.{arith}
-use lib.Arith.{digits-lt}
-use lib.IntN.{ℤ, pos, _*ℤ_}
+use native.Mathlib.Nat.{zero-add}
+use lib.IntN.{ℤ, pos, _+ℤ_, _*ℤ_}
 use lib.ListN.{getD}
+use mir.Syntax.{w16, w64}
+use mir.Val.{toZ, ofZ}
 use Rattle.integers.specs.Residues.{word}
-use Rattle.integers.proofs.Sums.{sum-none-yet}
+use Rattle.integers.specs.Sums as Sums
+use Rattle.integers.proofs.Sums.{sum-none-yet, sum-cong}
 use Rattle.integers.proofs.Residues.{residue-small}
-use Rattle.matrices.specs.Tables.{challenge}
-use Rattle.word_rows.specs.Rows.{rowTimes}
-use Rattle.word_rows.proofs.Rows.{sum-on}
+use Rattle.integers.proofs.Words.{Held}
+use Rattle.matrices.specs.Elements.{modulo}
+use Rattle.matrices.proofs.Elements.{modulo-sums, sum-down}
+use Rattle.small_rows.specs.Columns.{byColumns}
+use Rattle.small_rows.proofs.Small.{widened}
 use Rattle.word_folds.proofs.fold_column.Statement.{statement}
 use Rattle.word_folds.proofs.fold_column.Tie as tie
 
+-- product number k
+abbrev term : List ℕ → List ℤ → ℕ → ℕ → ℤ
+term x q j k = pos (getD x k 0) *ℤ byColumns q k j
+
 abbrev Inv-loop : tie.InvT-loop
-Inv-loop x c cols t j sum₀ k₀ sum k = (k ≤ cols) × (sum ≡ word (rowTimes k x (challenge t c) j))
+Inv-loop x q cols j sum₀ k₀ sum k = (k ≤ cols) × (sum ≡ word (Sums.sum (cols - k) (λ r. term x q j (k + r))))
 
 abbrev μ-loop : tie.MeasureT-loop
-μ-loop x c cols t j sum₀ k₀ sum k = cols - k
+μ-loop x q cols j sum₀ k₀ sum k = k
 
 loop-holds : tie.Need-loop-holds Inv-loop μ-loop
-loop-holds c = (omega arith, sym (ap word (sum-none-yet _) ∙ residue-small (2 ^ 64) 0 (omega arith)))
+loop-holds c =
+    let a = c .before .args in
+    let e : a .cols - a .cols ≡ 0 = omega arith in (
+      omega arith,
+      sym (ap (λ (n : ℕ). word (Sums.sum n (λ r. term (a .x .now) (a .q .now) (a .j) (a .cols + r)))) e ∙ ap word (sum-none-yet _) ∙ residue-small (2 ^ 64) 0 (omega arith)),
+    )
 
--- the byte that a turn reads is one of the challenge's
-within : (c : tie.In-loop Inv-loop μ-loop) →
-    let a = c .before .before .before .before .args in
-    c .before .loop .k * a .t + a .j < a .cols * a .t
-within c = digits-lt (c .loop-test .taken) (c .before .before .before .before .pre .2)
+sub-k : tie.Need-sub-k Inv-loop μ-loop
+sub-k c = search needs
 
-mul-add-ternary : tie.Need-mul-add-ternary Inv-loop μ-loop
-mul-add-ternary c = search needs
+-- the factor that a turn reads
+factor : (c : tie.After-y Inv-loop μ-loop) →
+    let l = c .before .before in
+    let a = l .before .before .args in
+    let z = byColumns (a .q .now) (l .loop .k - 1) (a .j) in
+    Held w64 (toZ w16 (ofZ w16 z)) z
+factor c =
+    let l = c .before .before in
+    let a = l .before .before .args in
+    widened (byColumns (a .q .now) (l .loop .k - 1) (a .j)) (record { sfits = c .y .given })
 
-shared-slice-read-add-ternary : tie.Need-shared-slice-read-add-ternary Inv-loop μ-loop
-shared-slice-read-add-ternary c = search needs
+mul-y : tie.Need-mul-y Inv-loop μ-loop
+mul-y c = search needs
 
-mul-add-ternary-2 : tie.Need-mul-add-ternary-2 Inv-loop μ-loop
-mul-add-ternary-2 c = omega (arith, within (c .before))
+add-y : tie.Need-add-y Inv-loop μ-loop
+add-y c = search needs
 
-add-add-ternary : tie.Need-add-add-ternary Inv-loop μ-loop
-add-add-ternary c = omega (arith, within (c .before))
+mul-y-2 : tie.Need-mul-y-2 Inv-loop μ-loop
+mul-y-2 c = search needs
 
-shared-slice-read-add-ternary-2 : tie.Need-shared-slice-read-add-ternary-2 Inv-loop μ-loop
-shared-slice-read-add-ternary-2 c = omega (arith, within (c .before .before))
+shared-slice-copy-out-y : tie.Need-shared-slice-copy-out-y Inv-loop μ-loop
+shared-slice-copy-out-y c = search needs
 
-add-ternary-requires : tie.Need-add-ternary-requires Inv-loop μ-loop
-add-ternary-requires c κs = search needs
+mul-add-signed-product : tie.Need-mul-add-signed-product Inv-loop μ-loop
+mul-add-signed-product c = search needs
 
-add-k : tie.Need-add-k Inv-loop μ-loop
-add-k c = search needs
+shared-slice-read-add-signed-product :
+    tie.Need-shared-slice-read-add-signed-product Inv-loop μ-loop
+shared-slice-read-add-signed-product c = search needs
+
+cast-add-signed-product : tie.Need-cast-add-signed-product Inv-loop μ-loop
+cast-add-signed-product c = factor (c .before) .fits
+
+add-signed-product-requires : tie.Need-add-signed-product-requires Inv-loop μ-loop
+add-signed-product-requires c κs = search needs
 
 loop-less : tie.Need-loop-less Inv-loop μ-loop
 loop-less c = search needs
@@ -57,18 +84,21 @@ loop-less c = search needs
 loop-again : tie.Need-loop-again Inv-loop μ-loop
 loop-again c =
     let l = c .before .before .before .before in
-    let a = l .before .before .before .args in
-    let k = l .loop .k in
-    let f : ℕ → ℤ = λ k. pos (getD (a .x .now) k 0) *ℤ challenge (a .t) (a .c .now) k (a .j) in (
+    let a = l .before .before .args in
+    let k = l .loop .k in (
       omega arith,
-      sum-on k f (l .loop .inv .1) (c .add-ternary .ensures),
+      sum-down modulo modulo-sums (a .cols) k (term (a .x .now) (a .q .now) (a .j)) (c .before .before .before .loop-test .taken) (l .loop .inv .0) (l .loop .inv .1)
+          (c .add-signed-product .ensures ∙ ap (λ (z : ℤ). word (pos (l .loop .sum) +ℤ pos (getD (a .x .now) (k - 1) 0) *ℤ z)) (factor (c .before .before) .read)),
     )
 
 returns : tie.Need-returns Inv-loop μ-loop
 returns c =
-    let a = c .before .before .before .before .args in
-    let e : c .before .loop .k ≡ a .cols = omega arith in
-    c .before .loop .inv .1 ∙ ap (λ (n : ℕ). word (rowTimes n (a .x .now) (challenge (a .t) (a .c .now)) (a .j))) e
+    let a = c .before .before .before .args in
+    let f = term (a .x .now) (a .q .now) (a .j) in
+    let e : c .before .loop .k ≡ 0 = omega arith in
+    let whole : a .cols - 0 ≡ a .cols = omega arith in
+    c .before .loop .inv .1 ∙ ap (λ (k : ℕ). word (Sums.sum (a .cols - k) (λ r. f (k + r)))) e
+    ∙ ap (λ (n : ℕ). word (Sums.sum n (λ r. f (0 + r)))) whole ∙ ap word (sum-cong (a .cols) _ _ (λ r h. ap f (zero-add r)))
 
 pub fold-column-spec : {M : Type 1} → statement M
 fold-column-spec =
@@ -77,13 +107,15 @@ fold-column-spec =
     Inv-loop
     μ-loop
     loop-holds
-    mul-add-ternary
-    shared-slice-read-add-ternary
-    mul-add-ternary-2
-    add-add-ternary
-    shared-slice-read-add-ternary-2
-    add-ternary-requires
-    add-k
+    sub-k
+    mul-y
+    add-y
+    mul-y-2
+    shared-slice-copy-out-y
+    mul-add-signed-product
+    shared-slice-read-add-signed-product
+    cast-add-signed-product
+    add-signed-product-requires
     loop-less
     loop-again
     returns)

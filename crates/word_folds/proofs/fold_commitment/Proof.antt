@@ -1,4 +1,4 @@
--- `word_folds::fold_commitment` meets its contract: the first i rows of `out` are those of x times the challenge.
+-- `word_folds::fold_commitment` meets its contract: the first i rows of `out` are those of x times q.
 use borrow.Author.Needs.{needs}
 use mathlib.Core.Path.{_∙_}
 use Prim.Native.Nat.{ℕ, _*_, _+_, _-_, _≤_}
@@ -7,30 +7,31 @@ use native.Mathlib.Nat.{zero-mul}
 use lib.ListN.{length-take, length-drop}
 use Rattle.integers.specs.Residues.{word}
 use Rattle.matrices.specs.Matrices.{product}
-use Rattle.matrices.specs.Tables.{unsigned, challenge}
+use Rattle.matrices.specs.Tables.{unsigned}
 use Rattle.matrices.proofs.Tables.{row-within, TableTo, table-none, table-part, table-all}
+use Rattle.small_rows.specs.Columns.{byColumns}
 use Rattle.word_rows.proofs.Rows.{times-row}
 use Rattle.word_folds.proofs.fold_commitment.Statement.{statement}
 use Rattle.word_folds.proofs.fold_commitment.Tie as tie
 
 abbrev Inv-loop : tie.InvT-loop
-Inv-loop x c n cols t out₀ i₀ out i = TableTo 0 n t (λ i j. word (product cols (unsigned cols x) (challenge t c) i j)) out (i * t)
+Inv-loop x q n cols t out₀ i₀ out i = TableTo 0 n t (λ i j. word (product cols (unsigned cols x) (byColumns q) i j)) out (i * t)
 
 abbrev μ-loop : tie.MeasureT-loop
-μ-loop x c n cols t out₀ i₀ out i = n - i
+μ-loop x q n cols t out₀ i₀ out i = n - i
 
 -- the function's entry, seen from the loop
 abbrev start : tie.At-loop Inv-loop μ-loop → tie.Start Inv-loop μ-loop
-start c = c .before .before .before .before
+start c = c .before .before .before
 
 -- what `out` is to hold
 abbrev folded : tie.Start Inv-loop μ-loop → ℕ → ℕ → ℕ
-folded c i j = word (product (c .args .cols) (unsigned (c .args .cols) (c .args .x .now)) (challenge (c .args .t) (c .args .c .now)) i j)
+folded c i j = word (product (c .args .cols) (unsigned (c .args .cols) (c .args .x .now)) (byColumns (c .args .q .now)) i j)
 
 loop-holds : tie.Need-loop-holds Inv-loop μ-loop
 loop-holds c =
-    let s = c .before .before .before in
-    table-none _ _ _ (folded s) _ _ (zero-mul (s .args .t)) (s .pre .2)
+    let s = c .before .before in
+    table-none _ _ _ (folded s) _ _ (zero-mul (s .args .t)) (s .pre .3)
 
 -- the rows that a turn lends lie within x and within `out`
 within : (c : tie.In-loop Inv-loop μ-loop) →
@@ -81,6 +82,7 @@ fold-row-requires c κs =
     let h = start (l .before) .pre in (
       simp (length-take, length-drop) (omega (arith, within l, h .0)),
       h .1,
+      h .2,
       simp (length-take, length-drop) (omega (arith, within l, l .before .loop .inv .long)),
     )
 
@@ -95,7 +97,7 @@ loop-again c =
     let l = c .before .before .before .before .before .before in
     let a = start l .args in
     table-part _ _ _ (folded (start l)) _ (l .loop .i) _ (c .before .before .before .before .before .loop-test .taken)
-    (c .before .before .fold-row .ensures ∙ times-row (a .t) (a .cols) (l .loop .i) (a .x .now) (challenge (a .t) (a .c .now))) (l .loop .inv)
+    (c .before .before .fold-row .ensures ∙ times-row (a .t) (a .cols) (l .loop .i) (a .x .now) (byColumns (a .q .now))) (l .loop .inv)
 
 same-length : tie.Need-same-length Inv-loop μ-loop
 same-length c = search needs

@@ -5,17 +5,19 @@ use Prim.Native.Nat.{_*_, _+_, _-_, _≤_}
 use native.Mathlib.Omega.{arith}
 use native.Mathlib.Nat.{zero-mul, add-mul}
 use lib.IntN.{pos}
-use lib.ListN.{length, length-take, length-drop}
+use lib.ListN.{length, getD, length-take, length-drop}
 use Rattle.integers.proofs.Sums.{sum-none-yet}
 use Rattle.matrices.specs.Tables.{signed}
 use Rattle.matrices.proofs.Tables.{rows-within}
-use Rattle.word_rows.specs.Rows.{rowTimes, Added}
-use Rattle.word_rows.proofs.Rows.{added-nothing, added-both, times-more}
+use Rattle.matrices.specs.Elements.{modulo, Added}
+use Rattle.matrices.proofs.Elements.{modulo-sums, added-nothing, added-both}
+use Rattle.word_rows.specs.Rows.{rowTimes}
+use Rattle.word_rows.proofs.Rows.{nothing-on, times-more}
 use Rattle.word_products.proofs.add_fours.Statement.{statement}
 use Rattle.word_products.proofs.add_fours.Tie as tie
 
 abbrev Inv-loop : tie.InvT-loop
-Inv-loop x s cols row₀ k₀ start₀ row k start = (k ≤ length x) × (start ≡ k * cols) × Added (rowTimes k x (signed cols s)) 0 row₀ row
+Inv-loop x s cols row₀ k₀ start₀ row k start = (k ≤ length x) × (start ≡ k * cols) × Added modulo (rowTimes k x (signed cols s)) 0 (length row₀) row₀ row
 
 abbrev μ-loop : tie.MeasureT-loop
 μ-loop x s cols row₀ k₀ start₀ row k start = length x - k
@@ -25,7 +27,8 @@ loop-holds c =
     let a = c .before .before .args in (
       omega arith,
       omega (arith, zero-mul (a .cols)),
-      added-nothing _ (a .row .now) (λ j. c .slice-known .given j .fits) (λ j. sum-none-yet _),
+      added-nothing modulo (rowTimes 0 (a .x .now) (signed (a .cols) (a .s .now))) 0 (length (a .row .now)) (a .row .now) (omega arith)
+          (λ j l. nothing-on (getD (a .row .now) j 0) _ (c .slice-known .given j .fits) (sum-none-yet _)),
     )
 
 -- the function's entry, seen from the loop
@@ -98,7 +101,7 @@ loop-again c =
     let a = s .args in (
       omega arith,
       omega (arith, l .loop .inv .1, add-mul (l .loop .k) 4 (a .cols)),
-      added-both _ _ _ _ _ _ (l .loop .inv .2) (c .before .before .add-four-rows .ensures)
+      added-both modulo modulo-sums _ _ _ _ _ _ _ _ _ (l .loop .inv .2 .long) (l .loop .inv .2) (c .before .before .add-four-rows .ensures)
           (λ j h. times-more (λ z. z) (pos 0) (a .cols) (a .x .now) (a .s .now) (l .loop .k) j (omega (arith, s .pre .1)) 4 (l .loop .start) (l .loop .inv .1)),
     )
 

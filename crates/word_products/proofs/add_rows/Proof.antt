@@ -8,14 +8,16 @@ use lib.IntN.{pos}
 use lib.ListN.{length, length-take, length-drop}
 use Rattle.matrices.specs.Tables.{signed}
 use Rattle.matrices.proofs.Tables.{row-within}
-use Rattle.word_rows.specs.Rows.{rowTimes, Added}
-use Rattle.word_rows.proofs.Rows.{added-both, times-one}
+use Rattle.matrices.specs.Elements.{modulo, Added}
+use Rattle.matrices.proofs.Elements.{modulo-sums, added-both}
+use Rattle.word_rows.specs.Rows.{rowTimes}
+use Rattle.word_rows.proofs.Rows.{times-one}
 use Rattle.word_products.proofs.add_rows.Statement.{statement}
 use Rattle.word_products.proofs.add_rows.Tie as tie
 
 abbrev Inv-loop : tie.InvT-loop
 Inv-loop x s cols row₀ k₀ row k =
-    (k ≤ length x) × (length row ≡ cols) × ((first : List ℕ) → Added (rowTimes k₀ x (signed cols s)) 0 first row₀ → Added (rowTimes k x (signed cols s)) 0 first row)
+    (k ≤ length x) × (length row ≡ cols) × ((first : List ℕ) → Added modulo (rowTimes k₀ x (signed cols s)) 0 (length first) first row₀ → Added modulo (rowTimes k x (signed cols s)) 0 (length first) first row)
 
 abbrev μ-loop : tie.MeasureT-loop
 μ-loop x s cols row₀ k₀ row k = length x - k
@@ -83,7 +85,7 @@ loop-again c =
       added .long ∙ l .loop .inv .1,
       λ first w.
           let before = l .loop .inv .2 first w in
-          added-both _ _ _ _ _ _ before added
+          added-both modulo modulo-sums _ _ _ _ _ _ _ _ _ (before .long) before added
           (λ j h. times-one (λ z. z) (pos 0) (a .cols) (a .x .now) (a .s .now) (l .loop .k) j (omega (arith, before .long, l .loop .inv .1))),
     )
 
@@ -95,7 +97,7 @@ returns c =
     let a = entry (c .before) .args in
     let added = c .before .loop .inv .2 (a .row .now) (c .before .before .before .before .add-fours .ensures .1) in
     let e : c .before .loop .k ≡ length (a .x .now) = omega arith in
-    subst (λ (n : ℕ). Added (rowTimes n (a .x .now) (signed (a .cols) (a .s .now))) 0 (a .row .now) (c .before .loop .row)) e added
+    subst (λ (n : ℕ). Added modulo (rowTimes n (a .x .now) (signed (a .cols) (a .s .now))) 0 (length (a .row .now)) (a .row .now) (c .before .loop .row)) e added
 
 pub add-rows-spec : {M : Type 1} → statement M
 add-rows-spec =

@@ -12,7 +12,9 @@ use Rattle.integers.proofs.Residues.{residue-small}
 use Rattle.matrices.specs.Tables.{signed}
 use Rattle.matrices.proofs.Tables.{row-within}
 use Rattle.word_rows.specs.Rows.{rowTimes}
-use Rattle.word_rows.proofs.Rows.{read-on, sum-on}
+use Rattle.matrices.specs.Elements.{modulo}
+use Rattle.matrices.proofs.Elements.{modulo-sums, sum-on}
+use Rattle.word_rows.proofs.Rows.{read-on}
 use Rattle.word_products.proofs.times_column.Statement.{statement}
 use Rattle.word_products.proofs.times_column.Tie as tie
 
@@ -42,20 +44,20 @@ within c =
     let row = row-within (s .args .m) (s .args .cols) (c .before .loop .k) (c .loop-test .taken) in
     (omega (arith, row, c .before .loop .inv .1, s .pre), omega (arith, row, s .pre))
 
-mul-add-product : tie.Need-mul-add-product Inv-loop μ-loop
-mul-add-product c = search needs
+mul-add-signed-product : tie.Need-mul-add-signed-product Inv-loop μ-loop
+mul-add-signed-product c = search needs
 
-shared-slice-read-add-product : tie.Need-shared-slice-read-add-product Inv-loop μ-loop
-shared-slice-read-add-product c = search needs
+shared-slice-read-add-signed-product : tie.Need-shared-slice-read-add-signed-product Inv-loop μ-loop
+shared-slice-read-add-signed-product c = search needs
 
-mul-add-product-2 : tie.Need-mul-add-product-2 Inv-loop μ-loop
-mul-add-product-2 c = omega (arith, within (c .before))
+mul-add-signed-product-2 : tie.Need-mul-add-signed-product-2 Inv-loop μ-loop
+mul-add-signed-product-2 c = omega (arith, within (c .before))
 
-shared-slice-copy-out-add-product : tie.Need-shared-slice-copy-out-add-product Inv-loop μ-loop
-shared-slice-copy-out-add-product c = omega (arith, within (c .before))
+shared-slice-copy-out-add-signed-product : tie.Need-shared-slice-copy-out-add-signed-product Inv-loop μ-loop
+shared-slice-copy-out-add-signed-product c = omega (arith, within (c .before))
 
-add-product-requires : tie.Need-add-product-requires Inv-loop μ-loop
-add-product-requires c κs = search needs
+add-signed-product-requires : tie.Need-add-signed-product-requires Inv-loop μ-loop
+add-signed-product-requires c κs = search needs
 
 add-at : tie.Need-add-at Inv-loop μ-loop
 add-at c = omega (arith, within (c .before .before .before))
@@ -75,8 +77,8 @@ loop-again c =
     let k = l .loop .k in (
       omega arith,
       omega (arith, l .loop .inv .1, add-mul k 1 (a .cols), one-mul (a .cols)),
-      sum-on k (λ k. pos (x k) *ℤ y (k * a .cols + a .j)) (l .loop .inv .2)
-          (read-on (l .loop .sum) (x k) (y (l .loop .at)) (record { sfits = c .before .add-product-arg .given }) (c .add-product .ensures)
+      sum-on modulo modulo-sums k (λ k. pos (x k) *ℤ y (k * a .cols + a .j)) (l .loop .inv .2)
+          (read-on (l .loop .sum) (x k) (y (l .loop .at)) (record { sfits = c .before .add-signed-product-arg .given }) (c .add-signed-product .ensures)
           ∙ ap (λ (p : ℕ). word (pos (l .loop .sum) +ℤ pos (x k) *ℤ y p)) (l .loop .inv .1)),
     )
 
@@ -93,11 +95,11 @@ times-column-spec =
     Inv-loop
     μ-loop
     loop-holds
-    mul-add-product
-    shared-slice-read-add-product
-    mul-add-product-2
-    shared-slice-copy-out-add-product
-    add-product-requires
+    mul-add-signed-product
+    shared-slice-read-add-signed-product
+    mul-add-signed-product-2
+    shared-slice-copy-out-add-signed-product
+    add-signed-product-requires
     add-at
     add-k
     loop-less

@@ -1,19 +1,24 @@
 -- `end` meets its contract: a bad rest, the relation where a leaf is due, else a missing line.
 use borrow.Author.Needs.{needs}
 use mathlib.Core.Path.{refl, sym, _∙_, ap}
-use Prim.Native.Nat.{_*_}
 use native.Mathlib.Omega.{arith}
 use lib.Seq.{length-take-le}
 use Rattle.settings.specs.Settings.{Parameters, parametersOf}
+use Rattle.lova.specs.Stored.{matrixA, matrixT, matrixS, matrixD}
+use Rattle.chain.specs.Nodes.{nodeOf}
 use Rattle.chain.specs.Reports.{endLine}
 use Rattle.chain.specs.Chain.{endDue}
 use Rattle.chain.proofs.Sizes.{Sizes, sizes}
-use Rattle.states.specs.Lent.{SetFor, stageOf}
+use Rattle.states.specs.Lent.{Store, withA, withFirst, countsOf, SetFor, stageOf}
 use Rattle.states.specs.declared.Due.the-variants as Dues
 use Rattle.states.proofs.Steps.{set-for}
-use Rattle.driver.proofs.Ends.{end-bad, end-due}
+use Rattle.driver.proofs.Ends.{end-missing, end-bad, end-due}
 use Rattle.driver.proofs.endings.end.Statement.{statement}
 use Rattle.driver.proofs.endings.end.Tie as tie
+
+-- what the slices hold at entry, whatever the new leaf's hold
+abbrev held : tie.Start → Store → Store
+held s m = withFirst (nodeOf (s .args .t1 .now) (s .args .d1 .now) (s .args .s1 .now)) (withA (s .args .a .now) m)
 
 -- where a leaf is due
 abbrev start : tie.After-enum-told → tie.Start
@@ -35,8 +40,8 @@ same-length c = search needs
 returns : tie.Need-returns
 returns c =
     let k = c .before .before .refuse-bad in
-    let a = c .before .before .before .before .before .before .before .before .before .args in
-    (end-bad (k .result) (a .state) (a .a .now) (a .t1 .now) (a .d1 .now) (a .s1 .now) (a .rest .now) (k .last .1 .0) (c .before .before .before .before .if1 .taken) (k .ensures .0), k .ensures .1 .2)
+    let s = c .before .before .before .before .before .before .before .before .before in
+    (λ m. end-bad (s .args .state) (held s m) (k .last .1 .0) (s .args .rest .now) (k .result) (c .before .before .before .before .if1 .taken) (k .ensures .0 (held s m)), k .ensures .1 .2)
 
 enum-told : tie.Need-enum-told
 enum-told c = search needs
@@ -54,16 +59,16 @@ mul-size-s : tie.Need-mul-size-s
 mul-size-s c = omega (arith, big (c .before .before .before .before .before) .S-high)
 
 slice-aggregate-test-relation : tie.Need-slice-aggregate-test-relation
-slice-aggregate-test-relation c = let t = c .before .before .before .before .before .before in sym (length-take-le (p t .n * p t .m) (start t .args .a .now) (omega (arith, big t .A-high, start t .pre .1 .0)))
+slice-aggregate-test-relation c = let t = c .before .before .before .before .before .before in sym (length-take-le (matrixA (p t) .size) (start t .args .a .now) (omega (arith, big t .A-high, start t .pre .1 .0)))
 
 slice-aggregate-test-relation-2 : tie.Need-slice-aggregate-test-relation-2
-slice-aggregate-test-relation-2 c = let t = c .before .before .before .before .before .before .before in sym (length-take-le (p t .n * p t .t) (start t .args .t1 .now) (omega (arith, big t .T-high, start t .pre .1 .1)))
+slice-aggregate-test-relation-2 c = let t = c .before .before .before .before .before .before .before in sym (length-take-le (matrixT (p t) .size) (start t .args .t1 .now) (omega (arith, big t .T-high, start t .pre .1 .1)))
 
 slice-aggregate-test-relation-3 : tie.Need-slice-aggregate-test-relation-3
-slice-aggregate-test-relation-3 c = let t = c .before .before .before .before .before .before .before .before in sym (length-take-le (p t .t * p t .t) (start t .args .d1 .now) (omega (arith, big t .D-high, start t .pre .1 .2)))
+slice-aggregate-test-relation-3 c = let t = c .before .before .before .before .before .before .before .before in sym (length-take-le (matrixD (p t) .size) (start t .args .d1 .now) (omega (arith, big t .D-high, start t .pre .1 .2)))
 
 slice-aggregate-test-relation-4 : tie.Need-slice-aggregate-test-relation-4
-slice-aggregate-test-relation-4 c = let t = c .before .before .before .before .before .before .before .before .before in sym (length-take-le (p t .m * p t .t) (start t .args .s1 .now) (omega (arith, big t .S-high, start t .pre .1 .3)))
+slice-aggregate-test-relation-4 c = let t = c .before .before .before .before .before .before .before .before .before in sym (length-take-le (matrixS (p t) .size) (start t .args .s1 .now) (omega (arith, big t .S-high, start t .pre .1 .3)))
 
 test-relation-requires : tie.Need-test-relation-requires
 test-relation-requires c κs = tt
@@ -75,28 +80,7 @@ enum-told-2 : tie.Need-enum-told-2
 enum-told-2 c = search needs
 
 missing-requires : tie.Need-missing-requires
-missing-requires c κs = c .before .before .before .before .before .before .before .before .pre .0
-
-enum-told-3 : tie.Need-enum-told-3
-enum-told-3 c = search needs
-
-missing-requires-2 : tie.Need-missing-requires-2
-missing-requires-2 c κs = c .before .before .before .before .before .before .before .before .pre .0
-
-enum-told-4 : tie.Need-enum-told-4
-enum-told-4 c = search needs
-
-missing-requires-3 : tie.Need-missing-requires-3
-missing-requires-3 c κs = c .before .before .before .before .before .before .before .before .pre .0
-
-enum-told-5 : tie.Need-enum-told-5
-enum-told-5 c = search needs
-
-missing-requires-4 : tie.Need-missing-requires-4
-missing-requires-4 c κs = c .before .before .before .before .before .before .before .before .pre .0
-
-enum-told-6 : tie.Need-enum-told-6
-enum-told-6 c = search needs
+missing-requires c κs = c .before .before .before .before .before .before .before .pre .0
 
 same-length-2 : tie.Need-same-length-2
 same-length-2 c = search needs
@@ -105,57 +89,32 @@ returns-2 : tie.Need-returns-2
 unfolding stageOf endDue
 returns-2 c =
     let k = c .before .before .put-end in
-    let s = c .before .before .before .before .before .before .before .before .before .before .before .before .before .before .before .before .before .before .before .before .before in
-    let a = s .args in (
-      end-due (k .result) (a .state) Dues.Leaf (a .a .now) (a .t1 .now) (a .d1 .now) (a .s1 .now) (a .rest .now) (k .last .0) (c .before .before .before .before .before .before .before .before .before .before .before .before .before .before .before .before .if1 .left) (c .before .before .before .before .before .before .before .before .before .before .before .before .before .before .enum-told .given .1) (λ T₂ D₂ S₂. k .ensures .1 ∙ ap (endLine (a .state .folds)) (c .before .before .before .before .test-relation .ensures)),
+    let told = c .before .before .before .before .before .before .before .before .before .before .before .before .before .before in
+    let s = start told in (
+      λ m. end-due (s .args .state) (held s m) (k .last .0) (s .args .rest .now) (k .result) Dues.Leaf (told .before .before .if1 .left) (told .enum-told .given .1)
+          (k .ensures .1 ∙ ap (endLine (s .args .state .folds)) (c .before .before .before .before .test-relation .ensures)),
       omega (arith, k .ensures .0, k .kept .0, s .pre .0 .2),
     )
-
-same-length-3 : tie.Need-same-length-3
-same-length-3 c = search needs
 
 returns-3 : tie.Need-returns-3
 unfolding stageOf endDue
 returns-3 c =
-    let k = c .before .before .missing in
-    let a = c .before .before .before .before .before .before .before .before .before .before .before .args in
-    (end-due (k .result) (a .state) Dues.Param (a .a .now) (a .t1 .now) (a .d1 .now) (a .s1 .now) (a .rest .now) (k .last .1 .0) (c .before .before .before .before .before .before .if1 .left) (c .before .before .before .before .enum-told2 .given .1) (λ T₂ D₂ S₂. k .ensures .1), k .ensures .0)
+    let s = c .before .before .before .before .before .before .before in
+    (λ m. end-due (s .args .state) (held s m) (s .args .out .now) (s .args .rest .now) 0 Dues.Nothing (c .before .before .if1 .left) (c .enum-told2 .given .1) refl, omega arith)
 
-same-length-4 : tie.Need-same-length-4
-same-length-4 c = search needs
+same-length-3 : tie.Need-same-length-3
+same-length-3 c = search needs
 
 returns-4 : tie.Need-returns-4
-unfolding stageOf endDue
 returns-4 c =
-    let k = c .before .before .missing2 in
-    let a = c .before .before .before .before .before .before .before .before .before .before .before .args in
-    (end-due (k .result) (a .state) Dues.Matrix (a .a .now) (a .t1 .now) (a .d1 .now) (a .s1 .now) (a .rest .now) (k .last .1 .0) (c .before .before .before .before .before .before .if1 .left) (c .before .before .before .before .enum-told3 .given .1) (λ T₂ D₂ S₂. k .ensures .1), k .ensures .0)
-
-same-length-5 : tie.Need-same-length-5
-same-length-5 c = search needs
-
-returns-5 : tie.Need-returns-5
-unfolding stageOf endDue
-returns-5 c =
-    let k = c .before .before .missing3 in
-    let a = c .before .before .before .before .before .before .before .before .before .before .before .args in
-    (end-due (k .result) (a .state) Dues.First (a .a .now) (a .t1 .now) (a .d1 .now) (a .s1 .now) (a .rest .now) (k .last .1 .0) (c .before .before .before .before .before .before .if1 .left) (c .before .before .before .before .enum-told4 .given .1) (λ T₂ D₂ S₂. k .ensures .1), k .ensures .0)
-
-same-length-6 : tie.Need-same-length-6
-same-length-6 c = search needs
-
-returns-6 : tie.Need-returns-6
-unfolding stageOf endDue
-returns-6 c =
-    let k = c .before .before .missing4 in
-    let a = c .before .before .before .before .before .before .before .before .before .before .before .args in
-    (end-due (k .result) (a .state) Dues.Challenge (a .a .now) (a .t1 .now) (a .d1 .now) (a .s1 .now) (a .rest .now) (k .last .1 .0) (c .before .before .before .before .before .before .if1 .left) (c .before .before .before .before .enum-told5 .given .1) (λ T₂ D₂ S₂. k .ensures .1), k .ensures .0)
-
-returns-7 : tie.Need-returns-7
-unfolding stageOf endDue
-returns-7 c =
-    let a = c .before .before .before .before .before .before .before .args in
-    (end-due 0 (a .state) Dues.Nothing (a .a .now) (a .t1 .now) (a .d1 .now) (a .s1 .now) (a .rest .now) (a .out .now) (c .before .before .if1 .left) (c .enum-told6 .given .1) (λ T₂ D₂ S₂. refl), omega arith)
+    let k = c .before .before .missing in
+    let at = c .before .before .before .before in
+    let s = at .before .before .before .before .before .before in
+    let run = s .args .state in (
+      λ m. end-due run (held s m) (k .last .1 .0) (s .args .rest .now) (k .result) (run .due) (at .before .if1 .left) refl
+          (k .ensures .1 ∙ sym (end-missing (countsOf run) (run .due) (parametersOf (run .setting)) (held s m) (at .match .keys3))),
+      k .ensures .0,
+    )
 
 pub end-spec : {M : Type 1} → statement M
 end-spec =
@@ -177,21 +136,8 @@ end-spec =
     put-end-requires
     enum-told-2
     missing-requires
-    enum-told-3
-    missing-requires-2
-    enum-told-4
-    missing-requires-3
-    enum-told-5
-    missing-requires-4
-    enum-told-6
     same-length-2
     returns-2
-    same-length-3
     returns-3
-    same-length-4
-    returns-4
-    same-length-5
-    returns-5
-    same-length-6
-    returns-6
-    returns-7)
+    same-length-3
+    returns-4)

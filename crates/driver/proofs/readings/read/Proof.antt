@@ -3,7 +3,7 @@ use borrow.Author.Needs.{needs}
 use mathlib.Core.Path.{sym}
 use native.Mathlib.Omega.{arith}
 use lib.Seq.{length-take-le}
-use Rattle.states.specs.Lent.{Store}
+use Rattle.states.specs.Lent.{Store, store}
 use Rattle.driver.proofs.Reading.{goes-on, line-ends, kept-open, kept-taken}
 use Rattle.driver.proofs.readings.read.Statement.{statement}
 use Rattle.driver.proofs.readings.read.Tie as tie
@@ -19,7 +19,7 @@ returns c =
     let s = c .before .before .before .before .before .before .before .before .before .before .before .before .before in
     let a = s .args in
     let k = c .before .before .before .before .cut-line in
-    let m : Store = (record { A = a .a .now; T₁ = a .t1 .now; D₁ = a .d1 .now; S₁ = a .s1 .now; T₂ = a .t2 .now; D₂ = a .d2 .now; S₂ = a .s2 .now }) in
+    let m : Store = store (a .a .now) (a .t1 .now) (a .d1 .now) (a .s1 .now) (a .t2 .now) (a .d2 .now) (a .s2 .now) in
     let g = goes-on (a .feed) (a .line .now) (k .last .1 .0) (a .chunk .now) m (k .result) (k .ensures .0) (c .if1 .taken) in
     (g .0, (g .1, kept-open (a .feed) (a .line .now) (k .last .1 .0) (a .chunk .now) m (k .result) (k .ensures .0) (k .ensures .1) (k .kept .1 .0) (s .pre .0 .0) (c .if1 .taken)))
 
@@ -68,8 +68,8 @@ returns-2 c =
     let a = s .args in
     let k = c .before .before .before .before .before .before .before .before .before .before .before .before .before .before .before .before .before .before .before .before .before .before .before .before .before .before .before .cut-line in
     let t = c .before .before .before .before .before .before .before .before .before .before .before .before .before .take in
-    let m : Store = (record { A = a .a .now; T₁ = a .t1 .now; D₁ = a .d1 .now; S₁ = a .s1 .now; T₂ = a .t2 .now; D₂ = a .d2 .now; S₂ = a .s2 .now }) in
-    let m′ : Store = record { A = t .last .1 .1 .0; T₁ = t .last .1 .1 .1 .0; D₁ = t .last .1 .1 .1 .1 .0; S₁ = t .last .1 .1 .1 .1 .1 .0; T₂ = t .last .1 .1 .1 .1 .1 .1 .0; D₂ = t .last .1 .1 .1 .1 .1 .1 .1 .0; S₂ = t .last .1 .1 .1 .1 .1 .1 .1 .1 .0 } in
+    let m : Store = store (a .a .now) (a .t1 .now) (a .d1 .now) (a .s1 .now) (a .t2 .now) (a .d2 .now) (a .s2 .now) in
+    let m′ : Store = store (t .last .1 .1 .0) (t .last .1 .1 .1 .0) (t .last .1 .1 .1 .1 .0) (t .last .1 .1 .1 .1 .1 .0) (t .last .1 .1 .1 .1 .1 .1 .0) (t .last .1 .1 .1 .1 .1 .1 .1 .0) (t .last .1 .1 .1 .1 .1 .1 .1 .1 .0) in
     let g = line-ends (a .feed) (a .line .now) (k .last .1 .0) (a .chunk .now) m (k .result) (k .ensures .0) (c .before .before .before .before .before .before .before .before .before .before .before .before .before .before .before .before .before .before .before .before .before .before .before .if1 .left) (t .result) m′ (t .last .1 .1 .1 .1 .1 .1 .1 .1 .1 .0) (t .ensures .0) in (
       g .0,
       (

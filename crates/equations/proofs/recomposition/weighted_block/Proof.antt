@@ -1,18 +1,20 @@
 -- `equations::recomposition::weighted_block` meets its contract: `sum` holds the bits of the first q rows' terms.
 use borrow.Author.Needs.{needs}
-use mathlib.Core.Path.{_≡_, sym, _∙_, ap, subst}
-use Prim.Native.Nat.{ℕ, _+_, _-_, _*_, _<_, _≤_}
+use mathlib.Core.Path.{_≡_, refl, sym, _∙_, ap}
+use Prim.Native.Nat.{ℕ, _+_, _-_, _*_, _^_, _≤_}
 use native.Mathlib.Omega.{arith}
 use native.Mathlib.Nat.{le-mul-of-pos-right}
 use lib.IntN.{ℤ, pos, _+ℤ_, _*ℤ_}
 use lib.ListN.{length, getD}
 use mir.Syntax.{w64}
-use mir.Val.{SFits, toZ, ofZ}
+use mir.Val.{toZ, ofZ}
 use mir.ValLaws.{toZ-ofZ}
 use Rattle.integers.specs.Sums as Sums
-use Rattle.integers.proofs.Sums.{sum-step, sum-none-yet, partial-fits, term-fits}
+use Rattle.integers.proofs.Sums.{sum-none-yet, partial-fits}
 use Rattle.matrices.proofs.Tables.{row-within}
-use Rattle.matrices.proofs.Turns.{Exact, exact}
+use Rattle.matrices.specs.Elements.{exactly}
+use Rattle.matrices.proofs.Elements.{exactly-sums, sum-on}
+use Rattle.matrices.proofs.Turns.{room, added, sum-room}
 use Rattle.equations.specs.Blocks.{rowTerm}
 use Rattle.equations.proofs.recomposition.weighted_block.Statement.{statement}
 use Rattle.equations.proofs.recomposition.weighted_block.Tie as tie
@@ -22,6 +24,16 @@ Inv-loop x columns i j powers k sum₀ q₀ sum q = (q ≤ k) × (sum ≡ ofZ w6
 
 abbrev μ-loop : tie.MeasureT-loop
 μ-loop x columns i j powers k sum₀ q₀ sum q = k - q
+
+-- the function's entry, seen from the loop, its rows' terms, and what `sum` stands for
+abbrev start : tie.At-loop Inv-loop μ-loop → tie.Start Inv-loop μ-loop
+start c = c .before .before
+
+abbrev terms : tie.Start Inv-loop μ-loop → ℕ → ℤ
+terms s = rowTerm (s .args .x .now) (s .args .columns) (s .args .powers .now) (s .args .k) (s .args .i) (s .args .j)
+
+holds : (c : tie.At-loop Inv-loop μ-loop) → toZ w64 (c .loop .sum) ≡ Sums.sum (c .loop .q) (terms (start c))
+holds c = ap (toZ w64) (c .loop .inv .1) ∙ toZ-ofZ w64 _ (partial-fits (start c .args .k) (terms (start c)) (start c .pre .1 .1) (c .loop .q) (omega arith))
 
 loop-holds : tie.Need-loop-holds Inv-loop μ-loop
 loop-holds c = (omega arith, ap (ofZ w64) (sym (sum-none-yet _)))
@@ -59,39 +71,24 @@ weighted-requires c κs =
     let b = c .before .before .before in
     ((within c .1, b .pre .0 .2, b .pre .0 .3), b .pre .1 .0 (c .before .loop .q) (c .loop-test .taken))
 
-mul-sum : tie.Need-mul-sum Inv-loop μ-loop
-mul-sum c = search needs
+mul-add-product : tie.Need-mul-add-product Inv-loop μ-loop
+mul-add-product c = search needs
 
-shared-slice-read-sum : tie.Need-shared-slice-read-sum Inv-loop μ-loop
-shared-slice-read-sum c = search needs
+shared-slice-read-add-product : tie.Need-shared-slice-read-add-product Inv-loop μ-loop
+shared-slice-read-add-product c = search needs
 
-cast-sum : tie.Need-cast-sum Inv-loop μ-loop
-cast-sum c = record { sfits = c .before .before .before .before .before .pre .0 .3 (c .before .before .before .loop .q) (c .before .before .loop-test .taken) }
+cast-add-product : tie.Need-cast-add-product Inv-loop μ-loop
+cast-add-product c = record { sfits = c .before .before .before .before .before .pre .0 .3 (c .before .before .before .loop .q) (c .before .before .loop-test .taken) }
 
--- what a turn does, at the place where both factors are there
-turned : (c : tie.After-shared-slice-known2 Inv-loop μ-loop) →
+add-product-requires : tie.Need-add-product-requires Inv-loop μ-loop
+add-product-requires c κs =
     let l = c .before .before .before in
-    let a = l .before .before .args in
-    let q = l .loop .q in
-    Exact (l .loop .sum) (c .before .weighted .result) (pos (getD (a .powers .now) q 0)) (Sums.sum (q + 1) (rowTerm (a .x .now) (a .columns) (a .powers .now) (a .k) (a .i) (a .j)))
-turned c =
-    let l = c .before .before .before in
-    let b = l .before .before in
-    let a = b .args in
+    let s = start l in
+    let a = s .args in
     let q = l .loop .q in
     let h = c .before .before .loop-test .taken in
-    let f : ℕ → ℤ = rowTerm (a .x .now) (a .columns) (a .powers .now) (a .k) (a .i) (a .j) in
-    let fits = b .pre .1 .1 in
-    let term : c .before .weighted .result *ℤ pos (getD (a .powers .now) q 0) ≡ f q = ap (λ (z : ℤ). z *ℤ pos (getD (a .powers .now) q 0)) (c .before .weighted .ensures) in
-    exact (Sums.sum q f) (c .before .weighted .result) (pos (getD (a .powers .now) q 0)) (sum-step q f ∙ ap (λ (z : ℤ). Sums.sum q f +ℤ z) (sym term)) (l .loop .inv .1)
-    (record { sfits = c .before .weighted .ok }) (record { sfits = b .pre .0 .3 q h })
-    (partial-fits (a .k) f fits q (omega arith)) (subst (SFits w64) (sym term) (term-fits (a .k) f fits q h)) (partial-fits (a .k) f fits (q + 1) (omega arith))
-
-mul-sum-2 : tie.Need-mul-sum-2 Inv-loop μ-loop
-mul-sum-2 c = turned c .product-fits
-
-add-sum : tie.Need-add-sum Inv-loop μ-loop
-add-sum c = turned c .sum-fits
+    room (Sums.sum q (terms s)) (c .before .weighted .result) (pos (getD (a .powers .now) q 0)) (holds l)
+    (record { sfits = c .before .weighted .ok }) (record { sfits = s .pre .0 .3 q h }) (rw (c .before .weighted .ensures) (sum-room (a .k) (2 ^ 63) (terms s) (s .pre .1 .1) q h))
 
 add-q : tie.Need-add-q Inv-loop μ-loop
 add-q c = search needs
@@ -100,15 +97,23 @@ loop-less : tie.Need-loop-less Inv-loop μ-loop
 loop-less c = search needs
 
 loop-again : tie.Need-loop-again Inv-loop μ-loop
-loop-again c = (omega arith, turned c .sum-is)
+loop-again c =
+    let l = c .before .before .before .before in
+    let s = start l in
+    let a = s .args in
+    let q = l .loop .q in
+    let w = c .before .before .weighted in (
+      omega arith,
+      ap (ofZ w64) (sum-on exactly exactly-sums q (terms s) (holds l)
+          (added (toZ w64 (l .loop .sum)) (w .result) (pos (getD (a .powers .now) q 0)) refl
+          (record { sfits = w .ok }) (record { sfits = s .pre .0 .3 q (c .before .before .before .loop-test .taken) }) (c .add-product .ensures)
+          ∙ ap (λ (z : ℤ). toZ w64 (l .loop .sum) +ℤ z *ℤ pos (getD (a .powers .now) q 0)) (w .ensures))),
+    )
 
 returns : tie.Need-returns Inv-loop μ-loop
 returns c =
-    let b = c .before .before .before in
-    let a = b .args in
-    let f : ℕ → ℤ = rowTerm (a .x .now) (a .columns) (a .powers .now) (a .k) (a .i) (a .j) in
-    let e : c .before .loop .q ≡ a .k = omega arith in
-    ap (toZ w64) (c .before .loop .inv .1) ∙ toZ-ofZ w64 _ (partial-fits (a .k) f (b .pre .1 .1) (c .before .loop .q) (omega arith)) ∙ ap (λ (n : ℕ). Sums.sum n f) e
+    let e : c .before .loop .q ≡ start (c .before) .args .k = omega arith in
+    holds (c .before) ∙ ap (λ (n : ℕ). Sums.sum n (terms (start (c .before)))) e
 
 pub weighted-block-spec : {M : Type 1} → statement M
 weighted-block-spec =
@@ -123,11 +128,10 @@ weighted-block-spec =
     mul-start-3
     add-start-2
     weighted-requires
-    mul-sum
-    shared-slice-read-sum
-    cast-sum
-    mul-sum-2
-    add-sum
+    mul-add-product
+    shared-slice-read-add-product
+    cast-add-product
+    add-product-requires
     add-q
     loop-less
     loop-again

@@ -8,9 +8,10 @@ use lib.IntN.{ℤ, pos, _*ℤ_}
 use lib.ListN.{getD}
 use Rattle.integers.specs.Sums as Sums
 use Rattle.integers.specs.Residues.{word}
-use Rattle.integers.proofs.Sums.{sum-step, sum-none-yet}
+use Rattle.integers.proofs.Sums.{sum-none-yet}
 use Rattle.integers.proofs.Residues.{residue-small}
-use Rattle.matrices.proofs.Turns.{wrapped}
+use Rattle.matrices.specs.Elements.{modulo}
+use Rattle.matrices.proofs.Elements.{modulo-sums, sum-on}
 use Rattle.equations.proofs.recomposition.weighted_words.Statement.{statement}
 use Rattle.equations.proofs.recomposition.weighted_words.Tie as tie
 
@@ -26,26 +27,24 @@ abbrev μ-loop : tie.MeasureT-loop
 loop-holds : tie.Need-loop-holds Inv-loop μ-loop
 loop-holds c = (search needs, sym (ap word (sum-none-yet _) ∙ residue-small (2 ^ 64) 0 (omega arith)))
 
-add-wrapping-mul : tie.Need-add-wrapping-mul Inv-loop μ-loop
-add-wrapping-mul c = search needs
+add-add-word-product : tie.Need-add-add-word-product Inv-loop μ-loop
+add-add-word-product c = search needs
 
-mul-wrapping-mul : tie.Need-mul-wrapping-mul Inv-loop μ-loop
-mul-wrapping-mul c = search needs
+mul-add-word-product : tie.Need-mul-add-word-product Inv-loop μ-loop
+mul-add-word-product c = search needs
 
-shared-slice-read-wrapping-mul : tie.Need-shared-slice-read-wrapping-mul Inv-loop μ-loop
-shared-slice-read-wrapping-mul c = search needs
+shared-slice-read-add-word-product : tie.Need-shared-slice-read-add-word-product Inv-loop μ-loop
+shared-slice-read-add-word-product c = search needs
 
-mul-wrapping-mul-2 : tie.Need-mul-wrapping-mul-2 Inv-loop μ-loop
-mul-wrapping-mul-2 c = search needs
+mul-add-word-product-2 : tie.Need-mul-add-word-product-2 Inv-loop μ-loop
+mul-add-word-product-2 c = search needs
 
-shared-slice-read-wrapping-mul-2 : tie.Need-shared-slice-read-wrapping-mul-2 Inv-loop μ-loop
-shared-slice-read-wrapping-mul-2 c = search needs
+shared-slice-read-add-word-product-2 :
+    tie.Need-shared-slice-read-add-word-product-2 Inv-loop μ-loop
+shared-slice-read-add-word-product-2 c = search needs
 
-wrapping-mul-requires : tie.Need-wrapping-mul-requires Inv-loop μ-loop
-wrapping-mul-requires c κs = search needs
-
-wrapping-add-u64-requires : tie.Need-wrapping-add-u64-requires Inv-loop μ-loop
-wrapping-add-u64-requires c κs = search needs
+add-word-product-requires : tie.Need-add-word-product-requires Inv-loop μ-loop
+add-word-product-requires c κs = search needs
 
 add-q : tie.Need-add-q Inv-loop μ-loop
 add-q c = search needs
@@ -55,17 +54,9 @@ loop-less c = search needs
 
 loop-again : tie.Need-loop-again Inv-loop μ-loop
 loop-again c =
-    let r = c .before .before in
-    let l = r .before .before .before in
+    let l = c .before .before .before .before in
     let a = l .before .before .before .args in
-    let q = l .loop .q in
-    let f : ℕ → ℤ = term (a .x .now) (a .start) (a .powers .now) in (
-      omega arith,
-      wrapped (Sums.sum q f) (pos (getD (a .x .now) (a .start + q) 0)) (pos (getD (a .powers .now) q 0)) (sum-step q f) (l .loop .inv .1)
-          (sym (residue-small (2 ^ 64) _ (r .before .shared-slice-known3 .given (a .start + q) .fits)))
-          (sym (residue-small (2 ^ 64) _ (r .shared-slice-known4 .given q .fits)))
-          (c .before .wrapping-mul .ensures) (c .wrapping-add-u64 .ensures),
-    )
+    (omega arith, sum-on modulo modulo-sums (l .loop .q) (term (a .x .now) (a .start) (a .powers .now)) (l .loop .inv .1) (c .add-word-product .ensures))
 
 returns : tie.Need-returns Inv-loop μ-loop
 returns c =
@@ -80,13 +71,12 @@ weighted-words-spec =
     Inv-loop
     μ-loop
     loop-holds
-    add-wrapping-mul
-    mul-wrapping-mul
-    shared-slice-read-wrapping-mul
-    mul-wrapping-mul-2
-    shared-slice-read-wrapping-mul-2
-    wrapping-mul-requires
-    wrapping-add-u64-requires
+    add-add-word-product
+    mul-add-word-product
+    shared-slice-read-add-word-product
+    mul-add-word-product-2
+    shared-slice-read-add-word-product-2
+    add-word-product-requires
     add-q
     loop-less
     loop-again

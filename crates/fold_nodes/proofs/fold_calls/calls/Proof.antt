@@ -7,7 +7,7 @@ use lib.IntN.{ℤ, pos}
 use lib.ListN.{take, replicate}
 use Rattle.settings.specs.Settings.{Parameters, NOf, parametersOf}
 use Rattle.lova.specs.Answers.{answerOf, verdictOf, ends}
-use Rattle.lova.specs.Stored.{Message, Prepared}
+use Rattle.lova.specs.Stored.{Message, Prepared, matrixV}
 use Rattle.lova.specs.Message.{message}
 use Rattle.lova.specs.Verdict.{verdict}
 use Rattle.lova.specs.Witness.{witness}
@@ -54,13 +54,13 @@ module _ (s : tie.Start) where
   -- what message finds
   found : Prepared
   found = record {
-    message = record { «V» = take (p .t * p .t) (replicate 4 (pos 0)); T~ = take (p .n * N) (replicate 256 0); D~ = take (N * N) (replicate 1024 (pos 0)) };
+    message = record { «V» = take (matrixV p .size) (replicate 4 (pos 0)); T~ = take (p .n * N) (replicate 256 0); D~ = take (N * N) (replicate 1024 (pos 0)) };
     S~ = take (p .m * N) (replicate 512 (pos 0));
   }
 
   found-blank : found ≡ blankPrepared p
   unfolding found
-  found-blank = rw (blank _ 4 (pos 0) (big .D-high), blank {A = ℕ} _ 256 0 T~-high, blank _ 1024 (pos 0) D~-high, blank _ 512 (pos 0) S~-high, is-N) refl
+  found-blank = rw (blank _ 4 (pos 0) (big .V-high), blank {A = ℕ} _ 256 0 T~-high, blank _ 1024 (pos 0) D~-high, blank _ 512 (pos 0) S~-high, is-N) refl
 
 -- message's call: the entry before it, what it left, and its equation
 abbrev start : tie.After-message → tie.Start
@@ -72,8 +72,8 @@ left c = record {
   S~ = c .message .last .1 .1 .1 .1 .1 .1 .1 .0;
 }
 
-V-back : (c : tie.After-message) → Back (p (start c) .t * p (start c) .t) 4 (pos 0) (left c .message .«V»)
-V-back c = back _ 4 (pos 0) _ (big (start c) .D-high) (c .message .kept .1 .1 .1 .1 .0)
+V-back : (c : tie.After-message) → Back (matrixV (p (start c)) .size) 4 (pos 0) (left c .message .«V»)
+V-back c = back _ 4 (pos 0) _ (big (start c) .V-high) (c .message .kept .1 .1 .1 .1 .0)
 
 T~-back : (c : tie.After-message) → Back (p (start c) .n * N (start c)) 256 0 (left c .message .T~)
 T~-back c = back _ 256 0 _ (T~-high (start c)) (c .message .kept .1 .1 .1 .1 .1 .0)
@@ -93,7 +93,7 @@ said c =
     c .message .ensures ∙ ap (λ (x : Prepared). message (p s) (s .args .a .now) (s .args .s1 .now) (s .args .s2 .now) x) (found-blank s)
 
 mul-size-v : tie.Need-mul-size-v
-mul-size-v c = omega (arith, big (c .before .before .before .before .before .before) .D-high)
+mul-size-v c = omega (arith, big (c .before .before .before .before .before .before) .V-high)
 
 mul-size-tt : tie.Need-mul-size-tt
 mul-size-tt c = omega (arith, T~-high (c .before .before .before .before .before .before .before))
@@ -105,10 +105,10 @@ mul-size-ss : tie.Need-mul-size-ss
 mul-size-ss c = omega (arith, S~-high (c .before .before .before .before .before .before .before .before .before))
 
 array-borrow-prefix-v : tie.Need-array-borrow-prefix-v
-array-borrow-prefix-v c = big (c .before .before .before .before .before .before .before .before .before) .D-high
+array-borrow-prefix-v c = big (c .before .before .before .before .before .before .before .before .before) .V-high
 
 slice-aggregate-message : tie.Need-slice-aggregate-message
-slice-aggregate-message c = sym (blank-long _ 4 (pos 0) (big (c .before .before .before .before .before .before .before .before .before .before) .D-high))
+slice-aggregate-message c = sym (blank-long _ 4 (pos 0) (big (c .before .before .before .before .before .before .before .before .before .before) .V-high))
 
 array-borrow-prefix-tt : tie.Need-array-borrow-prefix-tt
 array-borrow-prefix-tt c = T~-high (c .before .before .before .before .before .before .before .before .before .before)

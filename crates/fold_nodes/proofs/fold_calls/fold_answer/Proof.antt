@@ -2,7 +2,7 @@
 use borrow.Author.Needs.{needs}
 use mathlib.Core.Path.{refl}
 use Rattle.lova.specs.Answers.{answerOf, verdictOf}
-use Rattle.chain.specs.Nodes.{refuses, foldAnswer}
+use Rattle.chain.specs.Nodes.{refusal, refuses, foldAnswer}
 use Rattle.fold_nodes.proofs.fold_calls.fold_answer.Statement.{statement}
 use Rattle.fold_nodes.proofs.fold_calls.fold_answer.Tie as tie
 
@@ -19,15 +19,15 @@ enum-told-2 : tie.Need-enum-told-2
 enum-told-2 c = search needs
 
 returns : tie.Need-returns
-unfolding answerOf verdictOf refuses foldAnswer
+unfolding answerOf verdictOf refusal refuses foldAnswer
 returns c = rw (c .before .said .given .1) refl
 
 returns-2 : tie.Need-returns-2
-unfolding answerOf verdictOf refuses foldAnswer
+unfolding answerOf verdictOf refusal refuses foldAnswer
 returns-2 c = rw (c .before .before .before .enum-told .given .1, c .before .folded .given .1) refl
 
 returns-3 : tie.Need-returns-3
-unfolding answerOf verdictOf refuses foldAnswer
+unfolding answerOf verdictOf refusal refuses foldAnswer
 returns-3 c = search needs
 
 pub fold-answer-spec : {M : Type 1} → statement M

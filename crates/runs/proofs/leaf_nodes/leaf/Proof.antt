@@ -2,14 +2,14 @@
 use borrow.Author.Needs.{needs}
 use mathlib.Core.Path.{_≡_, refl, sym, _∙_, ap, ap₂}
 use mathlib.Core.List.{List}
-use Prim.Native.Nat.{ℕ, _*_}
+use Prim.Native.Nat.{ℕ}
 use lib.IntN.{ℤ, pos}
 use Rattle.settings.specs.Settings.{Parameters, parametersOf}
 use Rattle.lova.specs.declared.Answer.{Answer}
 use Rattle.lova.specs.Answers.{done, answerOf, ends}
-use Rattle.lova.specs.Stored.{Instance}
+use Rattle.lova.specs.Stored.{Instance, matrixT, matrixD}
 use Rattle.lova.specs.Commit.{commit}
-use Rattle.chain.specs.Nodes.{Node, nodeOf, blankInstance, refuses}
+use Rattle.chain.specs.Nodes.{Node, nodeOf, blankInstance, refusal, refuses}
 use Rattle.copies.proofs.Blanks.{blank, blank-long, Back, back}
 use Rattle.chain.proofs.Sizes.{Sizes, sizes}
 use Rattle.chain.proofs.Refusing.{node-same, leaf-ends, leaf-refuses}
@@ -33,10 +33,10 @@ start c = c .before .before .before .before .before .before .before
 abbrev left : tie.After-commit → Instance
 left c = record { T = c .commit .last .1 .1 .1 .0; D = c .commit .last .1 .1 .1 .1 .0 }
 
-T-back : (c : tie.After-commit) → Back (p (start c) .n * p (start c) .t) 16 0 (left c .T)
+T-back : (c : tie.After-commit) → Back (matrixT (p (start c)) .size) 16 0 (left c .T)
 T-back c = back _ 16 0 _ (big (start c) .T-high) (c .commit .kept .1 .1 .1 .0)
 
-D-back : (c : tie.After-commit) → Back (p (start c) .t * p (start c) .t) 4 (pos 0) (left c .D)
+D-back : (c : tie.After-commit) → Back (matrixD (p (start c)) .size) 4 (pos 0) (left c .D)
 D-back c = back _ 4 (pos 0) _ (big (start c) .D-high) (c .commit .kept .1 .1 .1 .1 .0)
 
 made : (c : tie.After-commit) (x : Answer) → c .commit .result ≡ x →
@@ -97,7 +97,7 @@ copy-wholes-requires-2 : tie.Need-copy-wholes-requires-2
 copy-wholes-requires-2 c κs = c .before .before .before .before .before .before .before .before .before .before .before .before .before .before .before .before .before .before .before .before .before .pre .1 .1 .0 ∙ sym (c .before .before .before .before .before .before .before .before .before .before .before .before .before .before .before .before .before .before .before .before .before .pre .1 .1 .1 .2)
 
 returns : tie.Need-returns
-unfolding answerOf refuses
+unfolding answerOf refusal refuses
 returns c =
     let m = c .before .before .before .before .before in
     let s = start m in
@@ -113,7 +113,7 @@ same-length-3 : tie.Need-same-length-3
 same-length-3 c = search needs
 
 returns-2 : tie.Need-returns-2
-unfolding answerOf refuses
+unfolding answerOf refusal refuses
 returns-2 c =
     let m = c .before .before .before .before .before .before .before .before .before .before .before .before .before .before .before .before in
     let s = start m in

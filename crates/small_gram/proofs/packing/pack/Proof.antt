@@ -12,7 +12,7 @@ use Rattle.small_gram.proofs.packing.pack.Statement.{statement}
 use Rattle.small_gram.proofs.packing.pack.Tie as tie
 
 abbrev Inv-loop : tie.InvT-loop
-Inv-loop s m n base p₀ k₀ p k = (k ≤ 32) × (length p ≡ length p₀) × Columns 32 n (λ i j. signed n s (base + i) j) (k * n) p
+Inv-loop s m n base p₀ k₀ p k = (k ≤ 32) × (length p ≡ length p₀) × Columns 32767 32 n (λ i j. signed n s (base + i) j) (k * n) p
 
 abbrev μ-loop : tie.MeasureT-loop
 μ-loop s m n base p₀ k₀ p k = 32 - k
@@ -20,7 +20,7 @@ abbrev μ-loop : tie.MeasureT-loop
 loop-holds : tie.Need-loop-holds Inv-loop μ-loop
 loop-holds c =
     let a = c .args in
-    (omega arith, refl, rw (zero-mul (a .n)) (columns-none 32 (a .n) (λ i j. signed (a .n) (a .s .now) (a .base + i) j) (a .p .now) (c .pre .3)))
+    (omega arith, refl, rw (zero-mul (a .n)) (columns-none 32767 32 (a .n) (λ i j. signed (a .n) (a .s .now) (a .base + i) j) (a .p .now) (c .pre .3)))
 
 pack-row-requires : tie.Need-pack-row-requires Inv-loop μ-loop
 pack-row-requires c κs =

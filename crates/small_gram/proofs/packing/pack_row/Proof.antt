@@ -15,7 +15,7 @@ use Rattle.small_gram.proofs.packing.pack_row.Statement.{statement}
 use Rattle.small_gram.proofs.packing.pack_row.Tie as tie
 
 abbrev Inv-loop : tie.InvT-loop
-Inv-loop s m n base k p₀ r c₀ p c = (c ≤ n) × (length p ≡ length p₀) × Columns 32 n (λ i j. signed n s (base + i) j) (k * n + c) p
+Inv-loop s m n base k p₀ r c₀ p c = (c ≤ n) × (length p ≡ length p₀) × Columns 32767 32 n (λ i j. signed n s (base + i) j) (k * n + c) p
 
 abbrev μ-loop : tie.MeasureT-loop
 μ-loop s m n base k p₀ r c₀ p c = n - c
@@ -53,11 +53,11 @@ loop-again c =
     let s = l .before in
     let a = s .args in
     let at = (a .base + a .k) * a .n + l .loop .c in
-    let small : natAbs (getD (a .s .now) at (pos 0)) ≤ 1024 = s .pre .0 .0 .small at in
+    let small : natAbs (getD (a .s .now) at (pos 0)) ≤ 32767 = s .pre .0 .0 .small at in
     let h : Held w16 (c .fetch .result) (getD (a .s .now) at (pos 0)) = held w16 (c .fetch .ensures) (omega arith) in (
       omega arith,
       length-set (l .loop .p) (l .loop .c * 32 + a .k) _ ∙ l .loop .inv .1,
-      columns-more 32 (a .n) (λ i j. signed (a .n) (a .s .now) (a .base + i) j) (l .loop .p) (a .k) (l .loop .c) _
+      columns-more 32767 32 (a .n) (λ i j. signed (a .n) (a .s .now) (a .base + i) j) (l .loop .p) (a .k) (l .loop .c) _
           (s .pre .0 .2) (c .before .loop-test .taken) (slice-set-from-x c) (rw (h .read) small) (h .read) (l .loop .inv .2),
     )
 

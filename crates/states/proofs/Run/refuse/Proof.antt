@@ -1,6 +1,5 @@
 -- `Run::refuse` meets its contract: the line that says so, and nothing is due.
 use borrow.Author.Needs.{needs}
-use mathlib.Core.Path.{refl}
 use Prim.Native.Nat.{_≤_}
 use native.Mathlib.Omega.{arith}
 use Rattle.states.specs.Lent.{SetFor}
@@ -27,8 +26,7 @@ returns c =
     let s = c .before .before .before .before .before .before .before .before in
     let k = c .before .before .before .put-refused in
     let long : k .result ≤ 512 = omega (arith, k .ensures .0, k .kept .0, s .pre .2) in
-    let safe = safe-after (s .args .self) Dues.Nothing (s .args .self .setting) (k .result) (s .pre .0) tt long in
-    (refused-comes (s .args .self) (s .args .number) (k .result) (k .last .0) (k .ensures .1), (safe .0, safe .1, safe .2, refl))
+    (refused-comes (s .args .self) (s .args .number) (k .result) (k .last .0) (k .ensures .1), safe-after (s .args .self) Dues.Nothing (s .args .self .setting) (k .result) (s .pre .0) tt long)
 
 pub refuse-spec : {M : Type 1} → statement M
 refuse-spec = tie.close (tie.spec add-put-refused put-refused-requires add-t9 same-length returns)

@@ -3,13 +3,13 @@ use borrow.Author.Needs.{needs}
 use mathlib.Core.Path.{refl, ap}
 use mathlib.Core.List.{[]}
 use Rattle.chain.specs.Chain.{State}
-use Rattle.states.specs.Lent.{Store}
+use Rattle.states.specs.Lent.{Store, store}
 use Rattle.driver.proofs.feeds.Feed.new.Statement.{statement}
 use Rattle.driver.proofs.feeds.Feed.new.Tie as tie
 
 -- matrices of any kind
 blank : Store
-blank = record { A = []; T₁ = []; D₁ = []; S₁ = []; T₂ = []; D₂ = []; S₂ = [] }
+blank = store [] [] [] [] [] [] []
 
 new-requires : tie.Need-new-requires
 new-requires c κs = search needs

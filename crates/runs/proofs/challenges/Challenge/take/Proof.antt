@@ -10,17 +10,17 @@ use Rattle.settings.specs.Settings.{Parameters, parametersOf}
 use Rattle.text.specs.Fields.{recordOf, readTernary}
 use Rattle.text.proofs.Fields.{answer-yes, answer-no}
 use Rattle.lova.specs.Answers.{verdictOf}
-use Rattle.lova.specs.Stored.{sizeC}
+use Rattle.lova.specs.Stored.{matrixT, matrixS, matrixD, sizeC}
 use Rattle.lova.proofs.Rebuilding.{N-is}
-use Rattle.chain.specs.Nodes.{Node, nodeOf, refuses}
-use Rattle.chain.specs.Chain.{cWord}
-use Rattle.chain.proofs.Refusing.{fold-kept}
+use Rattle.chain.specs.Nodes.{Node, nodeOf, refusal, refuses}
+use Rattle.chain.specs.Chain.{takeDue, cWord}
+use Rattle.chain.proofs.Refusing.{passes-on, fold-kept}
 use Rattle.copies.proofs.Blanks.{blank-long, Back, back}
 use Rattle.chain.proofs.Sizes.{Sizes, sizes}
-use Rattle.states.specs.Lent.{countsOf, stageOf, partA, partNode, SetFor}
+use Rattle.states.specs.Lent.{stageOf, countsOf, partA, partNode, SetFor}
 use Rattle.states.proofs.Parts.{room, lent, Part, part, node-kept, node-back, line-room}
 use Rattle.states.proofs.Telling.{leaf-is-due}
-use Rattle.runs.proofs.ChallengeLines.{goes-on, challenge-unread, challenge-refused, challenge-taken}
+use Rattle.runs.proofs.ChallengeLines.{challenge-unread, challenge-refused, challenge-taken}
 use Rattle.runs.proofs.challenges.Challenge.take.Statement.{statement}
 use Rattle.runs.proofs.challenges.Challenge.take.Tie as tie
 
@@ -85,13 +85,13 @@ read c =
 abbrev begin : tie.After-fold → tie.Start
 begin c = c .before .before .before .before .before .before .before .before .before .before .before .before .before .before .before .before .before .before .before .before .before .before .before .before .before .before
 
-T-back : (c : tie.After-fold) → Part (p (begin c) .n * p (begin c) .t) (begin c .args .t1 .now) (c .fold .last .1 .1 .0)
+T-back : (c : tie.After-fold) → Part (matrixT (p (begin c)) .size) (begin c .args .t1 .now) (c .fold .last .1 .1 .0)
 T-back c = part _ 16 _ (big (begin c) .T-high) (begin c .pre .1 .1 .T₁) _ (c .fold .kept .1 .1 .0)
 
-D-back : (c : tie.After-fold) → Part (p (begin c) .t * p (begin c) .t) (begin c .args .d1 .now) (c .fold .last .1 .1 .1 .0)
+D-back : (c : tie.After-fold) → Part (matrixD (p (begin c)) .size) (begin c .args .d1 .now) (c .fold .last .1 .1 .1 .0)
 D-back c = part _ 4 _ (big (begin c) .D-high) (begin c .pre .1 .1 .D₁) _ (c .fold .kept .1 .1 .1 .0)
 
-S-back : (c : tie.After-fold) → Part (p (begin c) .m * p (begin c) .t) (begin c .args .s1 .now) (c .fold .last .1 .1 .1 .1 .0)
+S-back : (c : tie.After-fold) → Part (matrixS (p (begin c)) .size) (begin c .args .s1 .now) (c .fold .last .1 .1 .1 .1 .0)
 S-back c = part _ 32 _ (big (begin c) .S-high) (begin c .pre .1 .1 .S₁) _ (c .fold .kept .1 .1 .1 .1 .0)
 
 abbrev left : tie.After-fold → Node
@@ -131,11 +131,11 @@ same-length : tie.Need-same-length
 same-length c = c .before .before .refuse .kept .1 .1 .0
 
 returns : tie.Need-returns
+unfolding stageOf takeDue
 returns c =
     let s = c .before .before .before .before .before .before .before .before .before .before .before .before .before .before .before .before .before .before .before .before .before in
     let r = c .before .before .refuse .ensures in
-    let o = r .1 in
-    (r .0 _ ∙ sym (challenge-unread (countsOf (s .args .self .run)) (p s) (A s) (accumulated s) (new s) (found s) (unread (c .before .before .before .before))), ((o .0, o .1, o .2), λ d. (refl, refl, refl)))
+    (r .0 _ ∙ sym (challenge-unread (countsOf (s .args .self .run)) (p s) (A s) (accumulated s) (new s) (found s) (unread (c .before .before .before .before))), (r .1, λ d. refl))
 
 slice-aggregate-fold : tie.Need-slice-aggregate-fold
 slice-aggregate-fold c = lent _ 128 _ (big (c .before .before .before .before .before .before .before .before .before .before .before .before .before .before .before .before .before .before) .A-high) (c .before .before .before .before .before .before .before .before .before .before .before .before .before .before .before .before .before .before .pre .1 .1 .A)
@@ -197,14 +197,13 @@ same-length-5 : tie.Need-same-length-5
 same-length-5 c = c .before .before .refuse2 .kept .1 .1 .0
 
 returns-2 : tie.Need-returns-2
-unfolding verdictOf refuses
+unfolding stageOf takeDue verdictOf refusal refuses
 returns-2 c =
     let s = c .before .before .before .before .before .before .before .before .before .before .before .before .before .before .before .before .before .before .before .before .before .before .before .before .before .before .before .before .before .before .before .before .before .before .before .before .before in
     let m = c .before .before .before .before .before .before .before .before .before .before .before in
     let r = c .before .before .refuse2 .ensures in
-    let o = r .1 in
     let said = ap verdictOf (c .before .before .before .before .before .answer .given .1) in
-    (r .0 _ ∙ sym (challenge-refused (countsOf (s .args .self .run)) (p s) (A s) (accumulated s) (new s) (found s) (entries (m .before .before .before .before .before .before .before .before .before .before .before)) (read (m .before .before .before .before .before .before .before .before .before)) _ (left m) (m .fold .ensures) _ said), ((o .0, o .1, o .2), λ d. node-kept (p s) (s .args .t1 .now) (s .args .d1 .now) (s .args .s1 .now) _ _ _ (fold-kept (p s) (A s) (accumulated s) (new s) (entries (m .before .before .before .before .before .before .before .before .before .before .before)) _ (left m) (m .fold .ensures) (ap refuses said))))
+    (r .0 _ ∙ sym (challenge-refused (countsOf (s .args .self .run)) (p s) (A s) (accumulated s) (new s) (found s) (entries (m .before .before .before .before .before .before .before .before .before .before .before)) (read (m .before .before .before .before .before .before .before .before .before)) _ (left m) (m .fold .ensures) _ said), (r .1, λ d. node-kept (p s) (s .args .t1 .now) (s .args .d1 .now) (s .args .s1 .now) _ _ _ (fold-kept (p s) (A s) (accumulated s) (new s) (entries (m .before .before .before .before .before .before .before .before .before .before .before)) _ (left m) (m .fold .ensures) (ap refuses said))))
 
 add-put-fold : tie.Need-add-put-fold
 add-put-fold c = omega (arith, c .before .before .before .before .before .before .before .before .before .before .before .before .before .before .before .before .before .before .before .before .before .before .before .before .before .before .before .before .before .before .before .before .before .pre .0 .0 .folds, c .before .before .before .before .before .before .before .before .before .before .before .before .before .before .before .before .before .before .before .before .before .before .before .before .before .before .before .before .before .before .before .before .before .pre .0 .1)
@@ -243,12 +242,12 @@ same-length-9 : tie.Need-same-length-9
 same-length-9 c = c .before .before .before .before .put-fold .kept .0
 
 returns-3 : tie.Need-returns-3
-unfolding stageOf SetFor
+unfolding stageOf takeDue SetFor
 returns-3 c =
     let s = c .before .before .before .before .before .before .before .before .before .before .before .before .before .before .before .before .before .before .before .before .before .before .before .before .before .before .before .before .before .before .before .before .before .before .before .before .before .before .before .before in
     let m = c .before .before .before .before .before .before .before .before .before .before .before .before .before .before in
     let put = c .before .before .before .before .put-fold in (
-      challenge-taken (countsOf (s .args .self .run)) (p s) (A s) (accumulated s) (new s) (found s) (entries (m .before .before .before .before .before .before .before .before .before .before .before)) (read (m .before .before .before .before .before .before .before .before .before)) _ (left m) (m .fold .ensures) (goes-on _ (c .before .before .before .before .before .before .before .before .before .match .keys2)) _ (node-back (p s) (s .args .t1 .now) (s .args .d1 .now) (s .args .s1 .now) _ _ _ (T-back m) (D-back m) (S-back m)) _ (put .ensures .1),
+      challenge-taken (countsOf (s .args .self .run)) (p s) (A s) (accumulated s) (new s) (found s) (entries (m .before .before .before .before .before .before .before .before .before .before .before)) (read (m .before .before .before .before .before .before .before .before .before)) _ (left m) (m .fold .ensures) (passes-on _ (c .before .before .before .before .before .before .before .before .before .match .keys2)) _ (node-back (p s) (s .args .t1 .now) (s .args .d1 .now) (s .args .s1 .now) _ _ _ (T-back m) (D-back m) (S-back m)) (D-back m .long) _ (put .ensures .1),
       (
         (record { leaves = omega (arith, s .pre .0 .0 .leaves); folds = omega (arith, s .pre .0 .0 .folds); set = s .pre .1 .0 }, omega arith, omega (arith, put .ensures .0, put .kept .0, s .pre .0 .2)),
         λ d. absurd (leaf-is-due d),

@@ -1,7 +1,6 @@
 -- `Leaf::take` meets its contract: refused because the line is no such record, refused by the leaf, or taken.
 use borrow.Author.Tests.{not-true, not-false}
 use mathlib.Core.Path.{_≡_, refl, sym, _∙_, ap}
-use mathlib.Core.Logic.{inl, inr}
 use mathlib.Core.List.{List, _++_}
 use mathlib.Core.Option.{Option, some, none}
 use Prim.Native.Nat.{ℕ, _*_}
@@ -12,17 +11,17 @@ use Rattle.settings.specs.Settings.{Parameters, parametersOf}
 use Rattle.text.specs.Fields.{recordOf, readI64}
 use Rattle.text.proofs.Fields.{answer-yes, answer-no}
 use Rattle.lova.specs.declared.Answer.{Answer}
-use Rattle.lova.specs.Stored.{matrixS}
+use Rattle.lova.specs.Stored.{matrixT, matrixS, matrixD}
 use Rattle.lova.specs.Answers.{answerOf}
-use Rattle.chain.specs.Nodes.{Node, nodeOf, refuses}
+use Rattle.chain.specs.Nodes.{Node, nodeOf, refusal, refuses}
 use Rattle.chain.specs.Reports.{leafWord}
 use Rattle.chain.proofs.Refusing.{leaf-kept}
 use Rattle.copies.proofs.Blanks.{blank-long, Back, back}
 use Rattle.chain.proofs.Sizes.{Sizes, sizes}
-use Rattle.states.specs.Lent.{countsOf, partA, partNode}
+use Rattle.states.specs.Lent.{withA, countsOf, partA, partNode}
 use Rattle.states.proofs.Parts.{room, lent, Part, part, node-kept, node-back, line-room}
-use Rattle.states.proofs.Telling.{awaited-due}
-use Rattle.runs.proofs.LeafLines.{refused-step, awaited-set, leaf-unread, leaf-refused, leaf-taken}
+use Rattle.states.proofs.Telling.{after-leaf-due}
+use Rattle.runs.proofs.LeafLines.{set-after, leaf-unread, leaf-refused, leaf-taken, line-refused, line-taken}
 use Rattle.runs.proofs.leaves.Leaf.take.Statement.{statement}
 use Rattle.runs.proofs.leaves.Leaf.take.Tie as tie
 
@@ -74,13 +73,13 @@ read c =
 abbrev begin : tie.After-leaf → tie.Start
 begin c = c .before .before .before .before .before .before .before .before .before .before .before .before .before .before .before .before .before .before .before .before .before
 
-T-back : (c : tie.After-leaf) → Part (p (begin c) .n * p (begin c) .t) (begin c .args .t .now) (c .leaf .last .1 .1 .1 .0)
+T-back : (c : tie.After-leaf) → Part (matrixT (p (begin c)) .size) (begin c .args .t .now) (c .leaf .last .1 .1 .1 .0)
 T-back c = part _ 16 _ (big (begin c) .T-high) (begin c .pre .1 .1 .1) _ (c .leaf .kept .1 .1 .1 .0)
 
-D-back : (c : tie.After-leaf) → Part (p (begin c) .t * p (begin c) .t) (begin c .args .d .now) (c .leaf .last .1 .1 .1 .1 .0)
+D-back : (c : tie.After-leaf) → Part (matrixD (p (begin c)) .size) (begin c .args .d .now) (c .leaf .last .1 .1 .1 .1 .0)
 D-back c = part _ 4 _ (big (begin c) .D-high) (begin c .pre .1 .1 .2) _ (c .leaf .kept .1 .1 .1 .1 .0)
 
-S-back : (c : tie.After-leaf) → Part (p (begin c) .m * p (begin c) .t) (begin c .args .s .now) (c .leaf .last .1 .1 .1 .1 .1 .0)
+S-back : (c : tie.After-leaf) → Part (matrixS (p (begin c)) .size) (begin c .args .s .now) (c .leaf .last .1 .1 .1 .1 .1 .0)
 S-back c = part _ 32 _ (big (begin c) .S-high) (begin c .pre .1 .1 .3) _ (c .leaf .kept .1 .1 .1 .1 .1 .0)
 
 abbrev left : tie.After-leaf → Node
@@ -119,9 +118,11 @@ same-length c = c .before .before .refuse .kept .1 .1 .0
 returns : tie.Need-returns
 returns c =
     let s = c .before .before .before .before .before .before .before .before .before .before .before .before .before .before .before .before .before .before .before in
-    let r = c .before .before .refuse .ensures in
-    let o = r .1 in
-    (λ after. refused-step (c .before .before .refuse .result) _ (countsOf (s .args .self .run)) 13 (r .0) (o .3) _ ∙ sym (leaf-unread (countsOf (s .args .self .run)) (p s) (A s) (found s) (unread (c .before .before .before .before)) after), ((o .0, o .1, o .2, inl (o .3)), λ d. (refl, refl, refl)))
+    let r = c .before .before .refuse .ensures in (
+      λ m. r .0 _ ∙ line-refused (s .args .self .run) (s .args .due) (withA (s .args .a .now) m) (s .args .line .now) (s .pre .1 .0 .1) 13
+          (leaf-unread (countsOf (s .args .self .run)) (p s) (A s) (found s) (unread (c .before .before .before .before))),
+      (r .1, λ d. refl),
+    )
 
 slice-aggregate-leaf : tie.Need-slice-aggregate-leaf
 slice-aggregate-leaf c = lent _ 128 _ (big (c .before .before .before .before .before .before .before .before .before .before .before .before .before .before .before .before) .A-high) (c .before .before .before .before .before .before .before .before .before .before .before .before .before .before .before .before .pre .1 .1 .0)
@@ -201,14 +202,17 @@ same-length-5 : tie.Need-same-length-5
 same-length-5 c = c .before .before .refuse2 .kept .1 .1 .0
 
 returns-2 : tie.Need-returns-2
-unfolding answerOf refuses
+unfolding answerOf refusal refuses
 returns-2 c =
     let s = c .before .before .before .before .before .before .before .before .before .before .before .before .before .before .before .before .before .before .before .before .before .before .before .before .before .before .before .before .before .before .before .before in
     let m = c .before .before .before .before .before .before .before .before .before .before .before in
     let r = c .before .before .refuse2 .ensures in
-    let o = r .1 in
     let said = ap answerOf (c .before .before .before .before .before .answer .given .1) in
-    (λ after. refused-step (c .before .before .refuse2 .result) _ (countsOf (s .args .self .run)) _ (r .0) (o .3) _ ∙ sym (leaf-refused (countsOf (s .args .self .run)) (p s) (A s) (found s) (witness (m .before .before .before .before .before .before .before .before)) (read (m .before .before .before .before .before .before)) (before s) _ (left m) (m .leaf .ensures) _ said after), ((o .0, o .1, o .2, inl (o .3)), λ d. node-kept (p s) (s .args .t .now) (s .args .d .now) (s .args .s .now) _ _ _ (leaf-kept (p s) (A s) (witness (m .before .before .before .before .before .before .before .before)) (before s) _ (left m) (m .leaf .ensures) (ap refuses said))))
+    let S = witness (m .before .before .before .before .before .before .before .before) in (
+      λ store. r .0 _ ∙ line-refused (s .args .self .run) (s .args .due) (withA (s .args .a .now) store) (s .args .line .now) (s .pre .1 .0 .1) _
+          (leaf-refused (countsOf (s .args .self .run)) (p s) (A s) (found s) S (read (m .before .before .before .before .before .before)) (before s) _ (left m) (m .leaf .ensures) _ said),
+      (r .1, λ d. node-kept (p s) (s .args .t .now) (s .args .d .now) (s .args .s .now) _ _ _ (leaf-kept (p s) (A s) S (before s) _ (left m) (m .leaf .ensures) (ap refuses said))),
+    )
 
 same-length-6 : tie.Need-same-length-6
 same-length-6 c = T-back (c .before .before .before .before .before .before .before .before .before .before .before .before .before .before .before) .count
@@ -223,15 +227,16 @@ same-length-9 : tie.Need-same-length-9
 same-length-9 c = c .before .before .before .before .put-leaf .kept .0
 
 returns-3 : tie.Need-returns-3
-unfolding answerOf refuses
+unfolding answerOf refusal refuses
 returns-3 c =
     let s = c .before .before .before .before .before .before .before .before .before .before .before .before .before .before .before .before .before .before .before .before .before .before .before .before .before .before .before .before .before .before .before .before .before .before .before .before in
     let m = c .before .before .before .before .before .before .before .before .before .before .before .before .before .before .before in
     let put = c .before .before .before .before .put-leaf in (
-      λ after. leaf-taken (countsOf (s .args .self .run)) (p s) (A s) (found s) (witness (m .before .before .before .before .before .before .before .before)) (read (m .before .before .before .before .before .before)) (before s) _ (left m) (m .leaf .ensures) (ap (λ (x : Answer). refuses (answerOf x)) (c .before .before .before .before .before .before .before .before .before .enum-told .given .1)) _ (node-back (p s) _ _ _ _ _ _ (T-back m) (D-back m) (S-back m)) (s .args .due) (s .pre .1 .0 .1) _ (put .ensures .1) after,
+      λ store. line-taken (s .args .self .run) (s .args .due) (withA (s .args .a .now) store) (s .args .line .now) (s .pre .1 .0 .1) _ _ _
+          (leaf-taken (countsOf (s .args .self .run)) (p s) (A s) (found s) (witness (m .before .before .before .before .before .before .before .before)) (read (m .before .before .before .before .before .before)) (before s) _ (left m) (m .leaf .ensures) (ap (λ (x : Answer). refuses (answerOf x)) (c .before .before .before .before .before .before .before .before .before .enum-told .given .1)) _ (node-back (p s) _ _ _ _ _ _ (T-back m) (D-back m) (S-back m)) (D-back m .long) _ (put .ensures .1)),
       (
-        (record { leaves = omega (arith, s .pre .0 .0 .leaves); folds = omega (arith, s .pre .0 .0 .folds); set = awaited-set (s .args .due) (s .pre .1 .0 .1) (s .args .self .run .setting) (s .pre .1 .0 .0) }, omega arith, omega (arith, put .ensures .0, put .kept .0, s .pre .0 .2), inr (refl, refl)),
-        λ d. absurd (awaited-due (s .args .due) (s .pre .1 .0 .1) d),
+        (record { leaves = omega (arith, s .pre .0 .0 .leaves); folds = omega (arith, s .pre .0 .0 .folds); set = set-after _ (s .args .due) (s .pre .1 .0 .1) (s .args .self .run .setting) (s .pre .1 .0 .0) }, omega arith, omega (arith, put .ensures .0, put .kept .0, s .pre .0 .2)),
+        λ d. absurd (after-leaf-due _ (s .args .due) (s .pre .1 .0 .1) d),
       ),
     )
 

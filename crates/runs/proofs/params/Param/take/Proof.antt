@@ -13,8 +13,8 @@ use Rattle.text.proofs.Fields.{answer-yes, answer-no}
 use Rattle.lova.specs.Calls.{Rebuilt}
 use Rattle.lova.proofs.Rebuilding.{number-is-setting, setting-ok, parameters-are, rebuilt}
 use Rattle.chain.specs.Limits.{small, programLimits}
-use Rattle.chain.specs.Chain.{paramWord, fromFive}
-use Rattle.states.specs.Lent.{SetFor, countsOf}
+use Rattle.chain.specs.Chain.{paramWord, fromFive, takeDue}
+use Rattle.states.specs.Lent.{stageOf, SetFor, countsOf}
 use Rattle.states.specs.declared.Due.the-variants as Dues
 use Rattle.runs.proofs.Refusals.{param-unread, param-refused, param-large, param-taken}
 use Rattle.states.proofs.Steps.{safe-after}
@@ -61,10 +61,11 @@ same-length : tie.Need-same-length
 same-length c = search needs
 
 returns : tie.Need-returns
+unfolding stageOf takeDue
 returns c =
     let k = c .before .before .refuse .ensures in
     let s = c .before .before .before .before .before .before .before .before .before .before .before .before in
-    ((λ m. k .0 m ∙ sym (param-unread (countsOf (s .args .self .run)) _ (unread (c .before .before .before .before)))), (k .1 .0, k .1 .1, k .1 .2))
+    (λ m. k .0 m ∙ sym (param-unread (countsOf (s .args .self .run)) _ (unread (c .before .before .before .before))), k .1)
 
 array-read-new : tie.Need-array-read-new
 array-read-new c = search needs
@@ -91,12 +92,13 @@ same-length-2 : tie.Need-same-length-2
 same-length-2 c = search needs
 
 returns-2 : tie.Need-returns-2
+unfolding stageOf takeDue
 returns-2 c =
     let k = c .before .before .refuse2 .ensures in
     let s = c .before .before .before .before .before .before .before .before .before .before .before .before .before .before in
     let new = c .before .before .before .before .before .new in
     let at = c .before .before .before .before .before .before in
-    ((λ m. k .0 m ∙ sym (param-refused (countsOf (s .args .self .run)) _ (five at) (read at) (new .result .refusal) (number-is-setting (fromFive (five at)) (new .result) (new .ensures)) (c .before .before .before .before .if2 .taken))), (k .1 .0, k .1 .1, k .1 .2))
+    (λ m. k .0 m ∙ sym (param-refused (countsOf (s .args .self .run)) _ (five at) (read at) (new .result .refusal) (number-is-setting (fromFive (five at)) (new .result) (new .ensures)) (c .before .before .before .before .if2 .taken)), k .1)
 
 is-small-requires : tie.Need-is-small-requires
 is-small-requires c κs = is-set (c .before)
@@ -108,17 +110,18 @@ same-length-3 : tie.Need-same-length-3
 same-length-3 c = search needs
 
 returns-3 : tie.Need-returns-3
+unfolding stageOf takeDue
 returns-3 c =
     let k = c .before .before .refuse3 .ensures in
     let s = c .before .before .before .before .before .before .before .before .before .before .before .before .before .before .before .before .before in
     let at = c .before .before .before .before .before .before .before .before .before in
-    ((λ m. k .0 m ∙ sym (param-large (countsOf (s .args .self .run)) _ (five at) (read at) (is-ok (c .before .before .before .before .before .before .before)) (is-small (c .before .before .before .before .before) _ (not-true _ (c .before .before .before .before .if3 .taken))))), (k .1 .0, k .1 .1, k .1 .2))
+    (λ m. k .0 m ∙ sym (param-large (countsOf (s .args .self .run)) _ (five at) (read at) (is-ok (c .before .before .before .before .before .before .before)) (is-small (c .before .before .before .before .before) _ (not-true _ (c .before .before .before .before .if3 .taken)))), k .1)
 
 add-t36 : tie.Need-add-t36
 add-t36 c = omega (arith, c .before .before .before .before .before .before .before .before .before .before .before .before .before .before .pre .1)
 
 returns-4 : tie.Need-returns-4
-unfolding SetFor
+unfolding stageOf takeDue SetFor
 returns-4 c =
     let s = c .before .before .before .before .before .before .before .before .before .before .before .before .before .before in
     let at = c .before .before .before .before .before .before in

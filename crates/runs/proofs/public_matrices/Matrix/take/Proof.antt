@@ -9,10 +9,10 @@ use lib.Seq.{length-take-le}
 use Rattle.settings.specs.Settings.{Parameters, parametersOf}
 use Rattle.text.specs.Fields.{recordOf, readU64, answerOf}
 use Rattle.text.proofs.Fields.{answer-yes, answer-no}
-use Rattle.chain.specs.Chain.{aWord}
+use Rattle.chain.specs.Chain.{aWord, takeDue}
 use Rattle.copies.proofs.Blanks.{blank-long, Back, back}
 use Rattle.chain.proofs.Sizes.{Sizes, sizes}
-use Rattle.states.specs.Lent.{SetFor, countsOf}
+use Rattle.states.specs.Lent.{stageOf, SetFor, countsOf}
 use Rattle.states.specs.declared.Due.the-variants as Dues
 use Rattle.states.proofs.Steps.{safe-after}
 use Rattle.states.proofs.Telling.{first-is-due}
@@ -63,10 +63,11 @@ same-length : tie.Need-same-length
 same-length c = search needs
 
 returns : tie.Need-returns
+unfolding stageOf takeDue
 returns c =
     let k = c .before .before .refuse .ensures in
     let s = c .before .before .before .before .before .before .before .before .before .before .before .before .before .before .before in
-    ((λ m. k .0 _ ∙ sym (matrix-unread (countsOf (s .args .self .run)) (p s) _ (answer-no _ _ _ (said (c .before .before .before .before .before .before)) (not-true _ (c .before .before .before .before .if1 .taken))))), ((k .1 .0, k .1 .1, k .1 .2), λ e. refl))
+    (λ m. k .0 _ ∙ sym (matrix-unread (countsOf (s .args .self .run)) (p s) _ (answer-no _ _ _ (said (c .before .before .before .before .before .before)) (not-true _ (c .before .before .before .before .if1 .taken)))), (k .1, λ e. refl))
 
 array-share-prefix-read : tie.Need-array-share-prefix-read
 array-share-prefix-read c = A-back (c .before .before) .fits
@@ -90,7 +91,7 @@ same-length-2 : tie.Need-same-length-2
 same-length-2 c = search needs
 
 returns-2 : tie.Need-returns-2
-unfolding SetFor
+unfolding stageOf takeDue SetFor
 returns-2 c =
     let s = c .before .before .before .before .before .before .before .before .before .before .before .before .before .before .before .before .before in
     let at = c .before .before .before .before .before .before .before .before in

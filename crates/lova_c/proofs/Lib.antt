@@ -1,4 +1,0 @@
-pub mod Writing
-pub mod Telling
-mod Giving
-mod Passing

@@ -1,0 +1,84 @@
+// The verifier's operations and the relation test for C. A setting is its five numbers n, m, t, b and bound; each
+// function returns a code. `include/lova.h` declares them, beside those of `prover_c` and `settings_c`.
+ghost use mathlib.Core.Path.{_≡_};
+ghost use Rattle.settings.specs.HouseList.{parameters};
+ghost use Rattle.lova.specs.Lent.{instanceBefore, instanceAfter, messageBefore};
+ghost use Rattle.lova.specs.Join.{join};
+ghost use Rattle.lova.specs.Verdict.{verdict};
+ghost use Rattle.lova.specs.Relation.{relation};
+ghost use Rattle.codes.specs.Codes.{codeOf, returned, coded};
+
+// Join: writes [T1 T2] and [D1 V; V-transposed D2]. Refusals 1 to 7.
+#[no_mangle]
+pub extern "C" fn lova_join(
+    n: u64,
+    m: u64,
+    t: u64,
+    b: u64,
+    bound: u64,
+    t1: &[u64],
+    d1: &[i64],
+    t2: &[u64],
+    d2: &[i64],
+    v: &[i64],
+    t_out: &mut [u64],
+    d_out: &mut [i64],
+) -> u8
+    ensures { λ r. ⌜ returned r (instanceAfter «t_out» «d_out»)
+        ≡ coded (join (parameters n m t b bound) (instanceBefore t1 d1) (instanceBefore t2 d2) (now (v .entry))
+        (instanceBefore «t_out» «d_out»)) ⌝ }
+{
+    let setting = codes::setting_of(n, m, t, b, bound);
+    let answer = joins::join(setting, t1, d1, t2, d2, v, t_out, d_out);
+    codes::code_of_answer(answer)
+}
+
+// Verify: the verdict on a message; on yes it writes T' and D'. Refusals 1 to 7, 9 and 10.
+#[no_mangle]
+pub extern "C" fn lova_verify(
+    n: u64,
+    m: u64,
+    t: u64,
+    b: u64,
+    bound: u64,
+    t1: &[u64],
+    d1: &[i64],
+    t2: &[u64],
+    d2: &[i64],
+    v: &[i64],
+    tt: &[u64],
+    dd: &[i64],
+    c: &[u8],
+    t_out: &mut [u64],
+    d_out: &mut [i64],
+) -> u8
+    ensures { λ r. ⌜ returned r (instanceAfter «t_out» «d_out»)
+        ≡ coded (verdict (parameters n m t b bound) (instanceBefore t1 d1) (instanceBefore t2 d2)
+        (messageBefore v tt dd) (now (c .entry)) (instanceBefore «t_out» «d_out»)) ⌝ }
+{
+    let setting = codes::setting_of(n, m, t, b, bound);
+    let verdict = verdicts::verify(setting, t1, d1, t2, d2, v, tt, dd, c, t_out, d_out);
+    codes::code_of_verdict(verdict)
+}
+
+// The relation test: whether S is a witness of the instance T, D. Refusals 1 to 7.
+#[no_mangle]
+pub extern "C" fn lova_test_relation(
+    n: u64,
+    m: u64,
+    t: u64,
+    b: u64,
+    bound: u64,
+    a: &[u64],
+    t_in: &[u64],
+    d_in: &[i64],
+    s: &[i64],
+) -> u8
+    ensures { λ r. ⌜ r
+        ≡ codeOf ((relation (parameters n m t b bound) (now (a .entry)) (instanceBefore «t_in» «d_in»)
+        (now (s .entry))) .answer) ⌝ }
+{
+    let setting = codes::setting_of(n, m, t, b, bound);
+    let membership = relations::test_relation(setting, a, t_in, d_in, s);
+    codes::code_of_membership(membership)
+}

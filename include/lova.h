@@ -1,0 +1,114 @@
+/* Lova folding at q = 2^64, proved: the functions of liblova.a (`bindings/archive` builds it).
+ *
+ * A setting is its five numbers n, m, t, b, bound. A slice is two arguments: a pointer to its first element, then how many
+ * elements it has. Matrices are stored by rows. With N = 2kt (k is what lova_setting writes first) the lengths are
+ *
+ *   A  n m      S  m t      T  n t      D  t t      V  t t      C  N t
+ *   S~ m N      T~ n N      D~ N N      joined T  n 2t          joined D  2t 2t
+ *
+ * h is b/2 rounded down, and H is h^2 m.
+ *
+ * Each function returns a code of `enum lova_code`. Of the refusals 1 to 12 the first that applies is given, in the order
+ * that each function names. A call that does not return LOVA_DONE leaves every output as it was. There is no call that is
+ * not allowed, as long as each pointer is aligned, is not null and has as many elements behind it as its length says, and
+ * no output overlaps anything else that is lent to the same call.
+ *
+ * The archive is for x86-64 and the System V calling convention. Nothing is allocated, and nothing is kept between calls:
+ * any number of threads may call at once, as long as what one call writes is lent to no other at the time. A call takes no
+ * more stack than `enum lova_stack` says.
+ */
+#ifndef LOVA_H
+#define LOVA_H
+
+#include <stddef.h>
+#include <stdint.h>
+
+#ifdef __cplusplus
+extern "C" {
+#endif
+
+enum lova_code {
+    LOVA_DONE = 0,           /* done; verify: yes; test_relation: member */
+
+    /* refusals */
+    LOVA_SHAPE = 1,          /* n, m or t out of range */
+    LOVA_BASE = 2,           /* b out of range */
+    LOVA_BOUND = 3,          /* bound out of range */
+    LOVA_COLUMNS = 4,        /* N above 512 */
+    LOVA_GROWTH = 5,         /* (N h)^2 m above bound */
+    LOVA_WIDTH = 6,          /* H ((b^k - 1)/(b - 1))^2 above 2^62 */
+    LOVA_LENGTH = 7,         /* a slice, outputs included, has not the length of its matrix */
+    LOVA_LONG_COLUMN = 8,    /* a column of a witness has a squared length above bound */
+    LOVA_CHALLENGE = 9,      /* a byte of the challenge is above 2 */
+    LOVA_DIGIT_PRODUCT = 10, /* an entry of D~ is above H in size */
+    LOVA_DIGIT = 11,         /* an entry of S~ is above h in size */
+    LOVA_UNLISTED = 12,      /* a number outside 1..4 asked of the house list */
+
+    /* words of the verdict and of the relation test */
+    LOVA_NORM = 100,         /* verify: the first equation, of the products, fails */
+    LOVA_COMMITMENT = 101,   /* verify: the second equation alone fails; test_relation: A S is not T */
+    LOVA_LONG = 102,         /* test_relation: a column of S has a squared length above bound */
+    LOVA_PRODUCTS = 103      /* test_relation: S-transposed S is not D */
+};
+
+/* The stack that a call of each function takes at most, in bytes: measured at the largest setting and rounded up to whole
+ * pages of 4096 (`comparisons/stack.c`). */
+enum lova_stack {
+    LOVA_COMMIT_STACK = 4096,
+    LOVA_MESSAGE_STACK = 36864,
+    LOVA_FOLD_WITNESS_STACK = 20480,
+    LOVA_JOIN_STACK = 4096,
+    LOVA_VERIFY_STACK = 24576,
+    LOVA_TEST_RELATION_STACK = 12288,
+    LOVA_SETTING_STACK = 4096,
+    LOVA_LISTED_STACK = 4096
+};
+
+/* T = A S modulo 2^64 and D = S-transposed S. Refusals 1 to 6, 7, 8. */
+uint8_t lova_commit(uint64_t n, uint64_t m, uint64_t t, uint64_t b, uint64_t bound,
+                    const uint64_t *a, size_t a_len, const int64_t *s, size_t s_len,
+                    uint64_t *t_out, size_t t_out_len, int64_t *d_out, size_t d_out_len);
+
+/* V, T~ (tt), D~ (dd) and the digit witness S~ (ss) of the witnesses S1 and S2. Refusals 1 to 6, 7, 8. */
+uint8_t lova_message(uint64_t n, uint64_t m, uint64_t t, uint64_t b, uint64_t bound,
+                     const uint64_t *a, size_t a_len, const int64_t *s1, size_t s1_len, const int64_t *s2, size_t s2_len,
+                     int64_t *v, size_t v_len, uint64_t *tt, size_t tt_len, int64_t *dd, size_t dd_len,
+                     int64_t *ss, size_t ss_len);
+
+/* The folded witness S' = S~ C. Refusals 1 to 6, 7, 9, 11. */
+uint8_t lova_fold_witness(uint64_t n, uint64_t m, uint64_t t, uint64_t b, uint64_t bound,
+                          const int64_t *ss, size_t ss_len, const uint8_t *c, size_t c_len,
+                          int64_t *s, size_t s_len);
+
+/* [T1 T2] and [D1 V; V-transposed D2]. Refusals 1 to 6, 7. */
+uint8_t lova_join(uint64_t n, uint64_t m, uint64_t t, uint64_t b, uint64_t bound,
+                  const uint64_t *t1, size_t t1_len, const int64_t *d1, size_t d1_len,
+                  const uint64_t *t2, size_t t2_len, const int64_t *d2, size_t d2_len,
+                  const int64_t *v, size_t v_len,
+                  uint64_t *t_out, size_t t_out_len, int64_t *d_out, size_t d_out_len);
+
+/* The verdict, and on yes (LOVA_DONE) T' and D'; else LOVA_NORM or LOVA_COMMITMENT. Refusals 1 to 6, 7, 9, 10. */
+uint8_t lova_verify(uint64_t n, uint64_t m, uint64_t t, uint64_t b, uint64_t bound,
+                    const uint64_t *t1, size_t t1_len, const int64_t *d1, size_t d1_len,
+                    const uint64_t *t2, size_t t2_len, const int64_t *d2, size_t d2_len,
+                    const int64_t *v, size_t v_len, const uint64_t *tt, size_t tt_len, const int64_t *dd, size_t dd_len,
+                    const uint8_t *c, size_t c_len,
+                    uint64_t *t_out, size_t t_out_len, int64_t *d_out, size_t d_out_len);
+
+/* Whether S is a witness of T, D: member (LOVA_DONE), else LOVA_LONG, LOVA_PRODUCTS or LOVA_COMMITMENT, the first that
+ * applies. Refusals 1 to 6, 7. */
+uint8_t lova_test_relation(uint64_t n, uint64_t m, uint64_t t, uint64_t b, uint64_t bound,
+                           const uint64_t *a, size_t a_len, const uint64_t *t_in, size_t t_in_len,
+                           const int64_t *d_in, size_t d_in_len, const int64_t *s, size_t s_len);
+
+/* The setting of five numbers: writes k, N and the 33 powers of b (b^p for p < k, then 0), 35 places. Refusals 1 to 6, 7. */
+uint8_t lova_setting(uint64_t n, uint64_t m, uint64_t t, uint64_t b, uint64_t bound, uint64_t *out, size_t out_len);
+
+/* A row of the house list, 1 to 4: writes n, m, t, b and bound, 5 places. Refusals 12, 7. */
+uint8_t lova_listed(uint64_t number, uint64_t *out, size_t out_len);
+
+#ifdef __cplusplus
+}
+#endif
+
+#endif
