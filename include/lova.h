@@ -45,9 +45,10 @@ enum lova_code {
     LOVA_UNLISTED = 12,      /* a number outside 1..4 asked of the house list */
 
     /* words of the verdict and of the relation test */
-    LOVA_NORM = 100,         /* verify: the first equation, of the products, fails */
+    LOVA_NORM = 100,         /* verify: the first equation, of the products, fails, and no diagonal entry is long */
     LOVA_COMMITMENT = 101,   /* verify: the second equation alone fails; test_relation: A S is not T */
-    LOVA_LONG = 102,         /* test_relation: a column of S has a squared length above bound */
+    LOVA_LONG = 102,         /* verify: a diagonal entry of D1 or D2 is above bound; test_relation: a column of S has a
+                                squared length above bound */
     LOVA_PRODUCTS = 103      /* test_relation: S-transposed S is not D */
 };
 
@@ -87,7 +88,9 @@ uint8_t lova_join(uint64_t n, uint64_t m, uint64_t t, uint64_t b, uint64_t bound
                   const int64_t *v, size_t v_len,
                   uint64_t *t_out, size_t t_out_len, int64_t *d_out, size_t d_out_len);
 
-/* The verdict, and on yes (LOVA_DONE) T' and D'; else LOVA_NORM or LOVA_COMMITMENT. Refusals 1 to 6, 7, 9, 10. */
+/* The verdict: yes (LOVA_DONE) with T' and D' where no diagonal entry of D1 or D2 is above bound and both equations hold;
+ * else LOVA_LONG, LOVA_NORM or LOVA_COMMITMENT, the first that applies. Entries and bound are compared as signed numbers,
+ * so a negative entry is not long. Refusals 1 to 6, 7, 9, 10. */
 uint8_t lova_verify(uint64_t n, uint64_t m, uint64_t t, uint64_t b, uint64_t bound,
                     const uint64_t *t1, size_t t1_len, const int64_t *d1, size_t d1_len,
                     const uint64_t *t2, size_t t2_len, const int64_t *d2, size_t d2_len,

@@ -93,9 +93,11 @@ pub type Answer = Result<(), Refusal>;
 #[must_use]
 #[non_exhaustive]
 pub enum Verdict {
-    /// Both equations hold; T' and D' were written.
+    /// No diagonal entry of D1 or D2 is above B, and both equations hold; T' and D' were written.
     Yes,
-    /// The first equation, of the products, fails.
+    /// A diagonal entry of D1 or D2 is above B, so that instance has no witness within B.
+    Long,
+    /// No diagonal entry is above B, and the first equation, of the products, fails.
     Norm,
     /// The second equation alone, of the commitments, fails.
     Commitment,
@@ -140,6 +142,7 @@ pub(crate) fn verdict(code: u8) -> Result<Verdict, Refusal> {
         0 => Ok(Verdict::Yes),
         100 => Ok(Verdict::Norm),
         101 => Ok(Verdict::Commitment),
+        102 => Ok(Verdict::Long),
         _ => Err(refusal(code)),
     }
 }
@@ -185,7 +188,7 @@ mod tests {
             assert_eq!(code(&format!("{refused:?}")), refused.number());
         }
         assert_eq!(answer(code("Done")), Ok(()));
-        for word in [Verdict::Norm, Verdict::Commitment] {
+        for word in [Verdict::Long, Verdict::Norm, Verdict::Commitment] {
             assert_eq!(verdict(code(&format!("{word:?}"))), Ok(word));
         }
         for word in [Membership::Long, Membership::Products, Membership::Commitment] {
@@ -205,6 +208,6 @@ mod tests {
         }
         // A word of another operation is none either.
         assert!([100, 101, 102, 103].iter().all(|code| fails(answer, *code)));
-        assert!(fails(verdict, 102) && fails(verdict, 103) && fails(membership, 100));
+        assert!(fails(verdict, 103) && fails(membership, 100));
     }
 }

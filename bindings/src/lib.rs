@@ -94,7 +94,8 @@ pub fn join(
 }
 
 /// The verdict on a message: both instances, V, T~, D~ and C to T' = T~ C modulo 2^64 and
-/// D' = C-transposed D~ C, which are written on [`Verdict::Yes`] alone.
+/// D' = C-transposed D~ C, which are written on [`Verdict::Yes`] alone. A diagonal entry of D1 or D2 above B
+/// is [`Verdict::Long`], whatever the equations say.
 ///
 /// Refusals: 1 to 6, 7, 9, 10.
 pub fn verify(

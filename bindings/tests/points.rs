@@ -75,6 +75,28 @@ fn other_verdicts_write_nothing() {
     assert_eq!(judged(&products, &tt, &c[1..]), (Err(Refusal::Length), 8, 8));
 }
 
+/// The verdict under a bound, and T' and D' afterwards, on a fold with A = 3 in which 11 is one witness. Its message is
+/// made with B = 121, which takes 11 and has the k and N of Setting 1.
+fn with_eleven(s1: i64, s2: i64, bound: u64) -> (Result<Verdict, Refusal>, u64, i64) {
+    let maker = Setting::new(1, 1, 1, 2, 121).unwrap();
+    let (mut v, mut tt, mut dd, mut ss) = ([0], [0; 10], [0; 100], [0; 10]);
+    lova::message(maker, &[3], &[s1], &[s2], &mut v, &mut tt, &mut dd, &mut ss).unwrap();
+    let instance = |s: i64| ([(3 * s) as u64], [s * s]);
+    let ((t1, d1), (t2, d2)) = (instance(s1), instance(s2));
+    let (setting, mut t, mut d) = (Setting::new(1, 1, 1, 2, bound).unwrap(), [8], [8]);
+    let verdict = lova::verify(setting, &t1, &d1, &t2, &d2, &v, &tt, &dd, &C, &mut t, &mut d);
+    (verdict, t[0], d[0])
+}
+
+#[test]
+fn a_long_start_does_not_pass() {
+    for (s1, s2) in [(11, -5), (7, 11)] {
+        assert_eq!(with_eleven(s1, s2, 100), (Ok(Verdict::Long), 8, 8));
+        assert_eq!(with_eleven(s1, s2, 120), (Ok(Verdict::Long), 8, 8));
+        assert_eq!(with_eleven(s1, s2, 121).0, Ok(Verdict::Yes));
+    }
+}
+
 #[test]
 fn joined_and_related() {
     let (mut t, mut d) = ([8; 2], [8; 4]);

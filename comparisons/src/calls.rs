@@ -179,6 +179,7 @@ fn answered(answer: lova::Answer) -> Answer {
 fn judged(verdict: Result<Verdict, Refusal>) -> Answer {
     let word = |verdict| match verdict {
         Verdict::Yes => Answer::Yes,
+        Verdict::Long => Answer::Long,
         Verdict::Norm => Answer::Norm,
         Verdict::Commitment => Answer::Commitment,
         other => unreachable!("the reference has no verdict {other:?}"),

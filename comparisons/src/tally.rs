@@ -34,6 +34,11 @@ impl Tally {
         *self.counts.entry(property.to_string()).or_default() += 1;
     }
 
+    /// How often an outcome or a property occurred so far.
+    pub fn count(&self, outcome: &str) -> u64 {
+        self.counts.get(outcome).copied().unwrap_or_default()
+    }
+
     /// Print the counts, and ask that these outcomes and no others occurred.
     pub fn finish(self, expected: &[&str]) {
         let counts: Vec<String> = self.counts.iter().map(|(outcome, count)| format!("{outcome} {count}")).collect();

@@ -3,6 +3,7 @@
 use crate::calls::Slice;
 use crate::inputs::*;
 use crate::seed::{below, once_in, pick};
+use reference::digits::digits;
 use reference::matrices::{product, transposed, whole, words as fitted, wrapping_product};
 use reference::operations::gadget;
 use reference::rng::Rng;
@@ -54,14 +55,36 @@ fn mirrored(rng: &mut Rng, z: &Shape) -> Vec<i64> {
     dd
 }
 
+/// Change the blocks of D~ on the diagonal so that the diagonal entries of the joined D are at most B; now and then
+/// one is above it.
+fn set_diagonal(rng: &mut Rng, z: &Shape, dd: &mut [i64]) {
+    let bound = z.bound as i64;
+    let long = once_in(rng, 4).then(|| below(rng, 2 * z.t));
+    for j in 0..2 * z.t {
+        let random = (rng.word() % z.bound) as i64;
+        let entry = if long == Some(j) { bound + 1 } else { pick(rng, &[bound, random, random, -random]) };
+        for i in 0..z.k {
+            let start = (j * z.k + i) * z.columns + j * z.k;
+            dd[start..start + z.k].fill(0);
+        }
+        // The digit of weight b^p, one for each p.
+        for (p, digit) in digits(entry, z.b, 2 * z.k - 1).into_iter().enumerate() {
+            dd[(j * z.k + p / 2) * z.columns + j * z.k + p - p / 2] = digit;
+        }
+    }
+}
+
 /// The block of a 2t by 2t matrix that starts at this row and column.
 fn block<E: Copy>(joined: &[E], t: usize, rows: std::ops::Range<usize>, column: usize) -> Vec<E> {
     rows.flat_map(|i| joined[i * 2 * t + column..i * 2 * t + column + t].to_vec()).collect()
 }
 
-/// Instances made to fit a message of any T~ and a mirrored D~, so that the verdict is yes with no witness at all.
+/// Instances made to fit a message of any T~ and a mirrored D~, so that both equations hold with no witness at all.
 fn made(rng: &mut Rng, z: &Shape, c: Vec<u8>) -> Judged {
-    let (dd, tt, g) = (mirrored(rng, z), words(rng, z.n * z.columns), gadget(z));
+    let (mut dd, tt, g) = (mirrored(rng, z), words(rng, z.n * z.columns), gadget(z));
+    if !once_in(rng, 4) {
+        set_diagonal(rng, z, &mut dd);
+    }
     let (columns, t) = (z.columns, z.t);
     let powers: Vec<i128> = g.iter().map(|power| *power as i128).collect();
     let right = product(&whole(&dd), &powers, columns, columns, 2 * t);
@@ -122,10 +145,11 @@ fn damage_commitments(rng: &mut Rng, z: &Shape, tt: &mut [u64]) {
     }
 }
 
-/// Change an instance or V: an entry by a power of two, V to its transposed, or the sides swapped.
+/// Change an instance or V: an entry by a power of two, a diagonal entry to B, one above or below −B, V to its
+/// transposed, or the sides swapped.
 fn damage_instances(rng: &mut Rng, z: &Shape, input: &mut Judged) {
     let bit = pick(rng, &[0, 1, 31, 32, 62, 63]);
-    match rng.word() % 7 {
+    match rng.word() % 9 {
         0 | 1 => {
             let t = if once_in(rng, 2) { &mut input.left.t } else { &mut input.right.t };
             let at = below(rng, t.len());
@@ -137,8 +161,13 @@ fn damage_instances(rng: &mut Rng, z: &Shape, input: &mut Judged) {
             let at = below(rng, d.len());
             d[at] ^= 1 << bit;
         }
-        4 => input.sent.v = transposed(&input.sent.v, z.t, z.t),
-        5 => std::mem::swap(&mut input.left, &mut input.right),
+        4 | 5 => {
+            let d = if once_in(rng, 2) { &mut input.left.d } else { &mut input.right.d };
+            let (bound, at) = (z.bound as i64, below(rng, z.t) * (z.t + 1));
+            d[at] = pick(rng, &[bound, bound + 1, -bound - 1]);
+        }
+        6 => input.sent.v = transposed(&input.sent.v, z.t, z.t),
+        7 => std::mem::swap(&mut input.left, &mut input.right),
         _ => std::mem::swap(&mut input.left.t, &mut input.right.t),
     }
 }

@@ -37,8 +37,8 @@ const fn setting(n: u64, m: u64, t: u64, b: u64, bound: u64) -> Parameters {
     Parameters { n, m, t, b, bound }
 }
 
-/// Compare this many random calls of an operation; the words are its answers beside the common refusals.
-fn compare(operation: Operation, cases: u64, words: &[&str]) {
+/// Compare this many random calls of an operation, and count what they answer and the borders that they reach.
+fn compared(operation: Operation, cases: u64) -> Tally {
     let name = format!("{operation:?}");
     let (mut rng, mut tally) = (generator(&name), Tally::new(&name));
     for case in 0..cases {
@@ -47,9 +47,15 @@ fn compare(operation: Operation, cases: u64, words: &[&str]) {
         tally.case(&answer.word());
         if refusal(&call.p) == 0 {
             note_borders(&mut tally, &call);
+            note_diagonals(&mut tally, &call, answer);
         }
     }
-    tally.finish(&[&COMMON, words].concat());
+    tally
+}
+
+/// The same; the words are the operation's answers beside the common refusals.
+fn compare(operation: Operation, cases: u64, words: &[&str]) {
+    compared(operation, cases).finish(&[&COMMON, words].concat());
 }
 
 /// Count settings with N = 512, and commitments to witnesses with a column at B exactly, or one above.
@@ -68,6 +74,25 @@ fn note_borders(tally: &mut Tally, call: &Call) {
             tally.note(border);
         }
     }
+}
+
+/// Count verdicts on instances whose diagonals lie at B, one above it or below 0, or where D2 alone is long.
+fn note_diagonals(tally: &mut Tally, call: &Call, answer: Answer) {
+    if call.operation != Operation::Verify || ![Answer::Yes, Answer::Long].contains(&answer) {
+        return;
+    }
+    let [_, Slice::Numbers(d1), _, Slice::Numbers(d2), ..] = &call.read[..] else { return };
+    let t = call.p.t as usize;
+    let diagonal = |d: &[i64]| (0..t).map(|i| i128::from(d[i * (t + 1)])).collect::<Vec<_>>();
+    let (first, all) = (diagonal(d1), [diagonal(d1), diagonal(d2)].concat());
+    let (bound, greatest) = (i128::from(call.p.bound), *all.iter().max().expect("t is not 0"));
+    let notes = [
+        (answer == Answer::Yes && greatest == bound, "yes with a diagonal entry at B"),
+        (answer == Answer::Yes && all.iter().any(|x| *x < 0), "yes with a diagonal entry below 0"),
+        (greatest == bound + 1, "long by one"),
+        (greatest > bound && first.iter().all(|x| *x <= bound), "long in D2 alone"),
+    ];
+    notes.iter().filter(|(holds, _)| *holds).for_each(|(_, note)| tally.note(note));
 }
 
 #[test]
@@ -92,7 +117,15 @@ fn join() {
 
 #[test]
 fn verify() {
-    compare(Operation::Verify, 50000, &["yes", "norm", "commitment", "refused(9)", "refused(10)"]);
+    let tally = compared(Operation::Verify, 50000);
+    for (word, least) in [("yes", 10_000), ("long", 1_000), ("norm", 1_000), ("commitment", 1_000)] {
+        assert!(tally.count(word) > least, "{word}: {} of 50000", tally.count(word));
+    }
+    let words = ["yes", "long", "norm", "commitment", "refused(9)", "refused(10)"];
+    let borders = [
+        "yes with a diagonal entry at B", "yes with a diagonal entry below 0", "long by one", "long in D2 alone",
+    ];
+    tally.finish(&[&COMMON[..], &words, &borders].concat());
 }
 
 #[test]

@@ -266,6 +266,11 @@ pub fn join(
     0
 }
 
+/// Whether no diagonal entry of d, cols by cols, is above the bound.
+fn diagonal_within(d: &[i64], cols: usize, bound: u64) -> bool {
+    d.iter().step_by(cols + 1).all(|x| *x <= bound as i64)
+}
+
 /// x G in whole numbers, one entry for each block of k: every sum stays within the width.
 fn recomposed(z: &Shape, x: &[i64]) -> Vec<i64> {
     x.chunks_exact(z.k).map(|block| block.iter().zip(&z.powers).map(|(x, p)| x * *p as i64).sum()).collect()
@@ -294,7 +299,7 @@ fn commitment_holds(z: &Shape, tt: &[u64], joined: &[u64]) -> bool {
     })
 }
 
-/// Verdict: 0 for yes, 100 for norm, 101 for commitment, or the refusal.
+/// Verdict: 0 for yes, 102 for long, 100 for norm, 101 for commitment, or the refusal.
 #[inline(never)]
 pub fn verify(
     p: [u64; 5], t1: &[u64], d1: &[i64], t2: &[u64], d2: &[i64], v: &[i64], tt: &[u64], dd: &[i64], c: &[u8],
@@ -314,6 +319,9 @@ pub fn verify(
     }
     if dd.iter().any(|x| x.unsigned_abs() > z.limit) {
         return 10;
+    }
+    if !diagonal_within(d1, z.t, z.bound) || !diagonal_within(d2, z.t, z.bound) {
+        return 102;
     }
     let mut joined_t = vec![0; 2 * z.n * z.t];
     let mut joined_d = vec![0; 4 * z.t * z.t];

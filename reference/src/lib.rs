@@ -1,5 +1,5 @@
-//! Reference for Lova folding at q = 2^64, written from document 01 and the
-//! readings of its open points. Plain and slow; it is meant to be compared with.
+//! Reference for Lova folding at q = 2^64, written from documents 01 and 02 and the
+//! readings of their open points. Plain and slow; it is meant to be compared with.
 #![forbid(unsafe_code)]
 #![allow(clippy::too_many_arguments)]
 

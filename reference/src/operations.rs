@@ -51,6 +51,11 @@ fn has_long_column(z: &Shape, s: &[i64]) -> bool {
     (0..z.t).any(|j| above(squared_length(s, z.m, z.t, j), z.bound as u128))
 }
 
+/// Whether a diagonal entry of D exceeds B.
+fn has_long_diagonal(z: &Shape, d: &[i64]) -> bool {
+    (0..z.t).any(|i| i128::from(d[i * z.t + i]) > i128::from(z.bound))
+}
+
 /// Joined T = [T1 T2] and D = [D1 V; V-transposed D2].
 fn joined(z: &Shape, t1: &[u64], d1: &[i64], t2: &[u64], d2: &[i64], v: &[i64]) -> (Vec<u64>, Vec<i64>) {
     let mut d = beside(d1, v, z.t, z.t);
@@ -131,7 +136,8 @@ pub fn message(
     Answer::Done
 }
 
-/// Verdict: both instances, V, T~, D~, C to an answer and, on yes, T' = T~ C and D' = C-transposed D~ C.
+/// Verdict: both instances, V, T~, D~, C to an answer and, on yes, T' = T~ C and D' = C-transposed D~ C. Long comes
+/// before the other answers, and after the refusals.
 pub fn verdict(
     p: &Parameters, t1: &[u64], d1: &[i64], t2: &[u64], d2: &[i64], v: &[i64],
     tt: &[u64], dd: &[i64], c: &[u8], t_out: &mut [u64], d_out: &mut [i64],
@@ -147,6 +153,9 @@ pub fn verdict(
     let Some(c) = challenge_values(c) else { return Answer::Refused(9) };
     if dd.iter().any(|x| x.unsigned_abs() > z.product_limit) {
         return Answer::Refused(10);
+    }
+    if has_long_diagonal(&z, d1) || has_long_diagonal(&z, d2) {
+        return Answer::Long;
     }
     let (joined_t, joined_d) = joined(&z, t1, d1, t2, d2, v);
     let g = gadget(&z);

@@ -339,7 +339,7 @@ fn join_puts_v_in_the_upper_right() {
 #[test]
 fn damaged_messages() {
     let mut rng = Rng::new(32);
-    let (mut yes, mut norm, mut commitment, mut refused) = (0, 0, 0, 0);
+    let (mut yes, mut long, mut norm, mut commitment, mut refused) = (0, 0, 0, 0, 0);
     for round in 0..1500 {
         let p = match round % 3 {
             0 => ONE,
@@ -356,7 +356,7 @@ fn damaged_messages() {
         let pick = |rng: &mut Rng, length: usize| rng.word() as usize % length;
         let step = [-1, 1][pick(&mut rng, 2)];
         for _ in 0..1 + pick(&mut rng, 2) {
-            match rng.word() % 9 {
+            match rng.word() % 10 {
                 0 => {
                     let at = pick(&mut rng, sent.dd.len());
                     sent.dd[at] += step;
@@ -395,6 +395,12 @@ fn damaged_messages() {
                     sent.dd[row * columns + row + 1] += step;
                     sent.dd[(row + 1) * columns + row] -= step;
                 }
+                // A diagonal entry at B, or past it.
+                8 => {
+                    let d = if pick(&mut rng, 2) == 0 { &mut left.d } else { &mut right.d };
+                    let (bound, at) = (p.bound as i64, pick(&mut rng, t) * (t + 1));
+                    d[at] = [bound, bound + 1, i64::MAX][pick(&mut rng, 3)];
+                }
                 // A power of b up in T~ by 2^64 / b where b is a power of 2: unseen.
                 _ => {
                     let at = pick(&mut rng, sent.tt.len());
@@ -409,9 +415,10 @@ fn damaged_messages() {
             refused += 1;
             continue;
         }
-        assert_eq!(answer.word(), by_equations(&p, &left, &right, &sent.v, &sent.tt, &sent.dd));
+        assert_eq!(answer.word(), by_entries(&p, &left, &right, &sent.v, &sent.tt, &sent.dd));
         match answer {
             Yes => yes += 1,
+            Long => long += 1,
             Norm => norm += 1,
             Commitment => commitment += 1,
             other => panic!("{other:?}"),
@@ -421,7 +428,60 @@ fn damaged_messages() {
             assert_eq!(t_out[0] as i128, first.rem_euclid(1 << 64));
         }
     }
-    assert!(yes > 50 && norm > 50 && commitment > 50 && refused > 50, "{yes} {norm} {commitment} {refused}");
+    let counts = [yes, long, norm, commitment, refused];
+    assert!(counts.iter().all(|count| *count > 50), "{counts:?}");
+}
+
+/// The message in Setting 1 with A = 3 of these digits, worked out by hand: message refuses a witness that is too long.
+fn by_hand(v: i64, ss: [i64; 10]) -> Message {
+    let tt = ss.iter().map(|x| (3 * x) as u64).collect();
+    let dd = ss.iter().flat_map(|x| ss.map(|y| x * y)).collect();
+    Message { v: vec![v], tt, dd, ss: ss.to_vec() }
+}
+
+#[test]
+fn a_long_start_does_not_pass() {
+    let instance = |s: i64| Node { t: vec![(3 * s) as u64], d: vec![s * s], s: vec![s] };
+    let first = by_hand(-55, [1, 1, 0, 1, 0, -1, 0, -1, 0, 0]);
+    let second = by_hand(77, [1, 1, 1, 0, 0, 1, 1, 0, 1, 0]);
+    // Both equations hold, as the verdict shows where B takes 121.
+    for (bound, answer) in [(100, Long), (120, Long), (121, Yes)] {
+        let p = setting(1, 1, 1, 2, bound);
+        assert_eq!(judge(&p, &instance(11), &instance(-5), &first, &C).0, answer);
+        assert_eq!(judge(&p, &instance(7), &instance(11), &second, &C).0, answer);
+    }
+    let border = honest_message(&ONE, &[3], &[10], &[-10]).unwrap();
+    assert_eq!(judge(&ONE, &instance(10), &instance(-10), &border, &C).0, Yes);
+}
+
+#[test]
+fn long_comes_after_refusals_and_before_norm() {
+    let (left, right, mut sent) = example();
+    for (entry, answer) in [(100, Norm), (101, Long), (i64::MAX, Long), (-101, Norm), (i64::MIN, Norm)] {
+        let other = Node { d: vec![entry], ..left.clone() };
+        assert_eq!(judge(&ONE, &other, &right, &sent, &C).0, answer);
+        assert_eq!(judge(&ONE, &right, &other, &sent, &C).0, answer);
+    }
+    let long = Node { d: vec![101], ..left };
+    sent.dd[17] = 2;
+    assert_eq!(judge(&ONE, &long, &right, &sent, &C).0, Refused(10));
+    assert_eq!(judge(&ONE, &long, &right, &sent, &[3; 10]).0, Refused(9));
+    assert_eq!(judge(&ONE, &long, &right, &sent, &[3; 9]).0, Refused(7));
+}
+
+#[test]
+fn only_the_diagonal_is_long() {
+    let p = setting(1, 1, 2, 5, 576);
+    let columns = p.columns() as usize;
+    let sent = Message { v: vec![577; 4], tt: vec![0; columns], dd: vec![0; columns * columns], ss: vec![] };
+    let instance = |d: [i64; 4]| Node { t: vec![0; 2], d: d.to_vec(), s: vec![] };
+    let short = instance([576, 577, 577, 576]);
+    let c = vec![1; 2 * columns];
+    assert_eq!(judge(&p, &short, &short, &sent, &c).0, Norm);
+    for long in [instance([577, 0, 0, 0]), instance([0, 0, 0, 577])] {
+        assert_eq!(judge(&p, &long, &short, &sent, &c).0, Long);
+        assert_eq!(judge(&p, &short, &long, &sent, &c).0, Long);
+    }
 }
 
 #[test]

@@ -27,11 +27,12 @@ message-same «V» V′ T~ T′ D~ D′ v t d = rw (v, t, d) refl
 
 -- the places of the verdicts that are no refusal, as a `match` that names `Refused` alone tells them apart; they do not refuse
 abbrev pub passing : List ℕ
-passing = 0 ∷ 1 ∷ 2 ∷ []
+passing = 0 ∷ 1 ∷ 2 ∷ 3 ∷ []
 
 pub passes-on : (v : Verdict) → OneOf passing (tagOf the-type v) → refuses (verdictOf v) ≡ false
 unfolding refusal refuses verdictOf
 passes-on Verdicts.Yes h = refl
+passes-on Verdicts.Long h = refl
 passes-on Verdicts.Norm h = refl
 passes-on Verdicts.Commitment h = refl
 passes-on (Verdicts.Refused r) h = absurd (miss passing (tagOf the-type (Verdicts.Refused r)) tt h)

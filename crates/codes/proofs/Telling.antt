@@ -18,7 +18,7 @@ use Rattle.lova.specs.Commit.{commitRules, instanceOf, commit}
 use Rattle.lova.specs.Message.{messageRules, preparedOf, message}
 use Rattle.lova.specs.Witness.{witnessRules, foldedWitness, witness}
 use Rattle.lova.specs.Join.{joinRules, joinedInstance, join}
-use Rattle.lova.specs.Verdict.{verdictRules, firstHolds, secondHolds, foldedInstance, verdictBy, verdict}
+use Rattle.lova.specs.Verdict.{verdictRules, diagonalsHold, firstHolds, secondHolds, foldedInstance, verdictBy, verdict}
 use Rattle.lova.specs.Tests.{short}
 use Rattle.lova.specs.Relation.{relationRules, productsHold, commitmentHolds, memberWord, relation}
 use Rattle.codes.specs.Codes.{codeOf, meaningOf}
@@ -80,18 +80,19 @@ module _ (p : Parameters) (I₁ I₂ : Instance) («V» : List ℤ) (out : Insta
   unfolding join joinRules
   join-told = call-told done out (ends done (joinedInstance p I₁ I₂ «V»)) done-told (afterSetting p (joinRules p I₁ I₂ «V» out)) tt
 
-verdict-words : (first second : Bool) (before after : Instance) → Told «yes» ((verdictBy first second before after) .answer)
+verdict-words : (within first second : Bool) (before after : Instance) → Told «yes» ((verdictBy within first second before after) .answer)
 unfolding verdictBy codeOf meaningOf
-verdict-words false second before after = refl
-verdict-words true false before after = refl
-verdict-words true true before after = refl
+verdict-words false first second before after = refl
+verdict-words true false second before after = refl
+verdict-words true true false before after = refl
+verdict-words true true true before after = refl
 
 module _ (p : Parameters) (I₁ I₂ : Instance) (M : Message) (C : List ℕ) (out : Instance) where
   pub verdict-told : Told «yes» ((verdict p I₁ I₂ M C out) .answer)
   unfolding verdict verdictRules
   verdict-told =
-      let holds = verdict-words (firstHolds p I₁ I₂ M) (secondHolds p I₁ I₂ M) out (foldedInstance p M C) in
-      call-told «yes» out (verdictBy (firstHolds p I₁ I₂ M) (secondHolds p I₁ I₂ M) out (foldedInstance p M C)) holds (afterSetting p (verdictRules p I₁ I₂ M C out)) tt
+      let holds = verdict-words (diagonalsHold p I₁ I₂) (firstHolds p I₁ I₂ M) (secondHolds p I₁ I₂ M) out (foldedInstance p M C) in
+      call-told «yes» out (verdictBy (diagonalsHold p I₁ I₂) (firstHolds p I₁ I₂ M) (secondHolds p I₁ I₂ M) out (foldedInstance p M C)) holds (afterSetting p (verdictRules p I₁ I₂ M C out)) tt
 
 member-words : (isShort holdsD holdsT : Bool) → Told member (memberWord isShort holdsD holdsT)
 unfolding memberWord codeOf meaningOf

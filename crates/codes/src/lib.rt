@@ -43,6 +43,7 @@ pub fn code_of_verdict(verdict: Verdict) -> u8
         Verdict::Yes => 0,
         Verdict::Norm => 100,
         Verdict::Commitment => 101,
+        Verdict::Long => 102,
         Verdict::Refused(number) => number,
     }
 }

@@ -1,8 +1,8 @@
 -- The definitions at whole folds that an independent program computed (reference/, `vectors`, seed 1): two at t = 1, two at t = 2, where
--- power-first order or V for its transpose would show. And the answers to a changed T~ and a changed D~.
+-- power-first order or V for its transpose would show. And the answers to a changed T~ and a changed D~, and to a long diagonal.
 use mathlib.Core.Path.{_≡_, refl}
 use mathlib.Core.List.{List, [], _∷_}
-use Prim.Native.Nat.{ℕ}
+use Prim.Native.Nat.{ℕ, suc, _-_}
 use lib.IntN.{ℤ, pos, negsuc}
 use lib.ListN.{length, set, replicate}
 use Rattle.integers.specs.Lists.{build}
@@ -13,15 +13,15 @@ use Rattle.settings.specs.Rules.{firstOf}
 use Rattle.settings.specs.Settings.{Parameters, greatest, LOf, repunit}
 use Rattle.settings.specs.HouseList.{parameters}
 use Rattle.digits.specs.Digits.{stepOf, restOf, digitOf}
-use Rattle.lova.specs.Answers.{done, «yes», norm, commitment, member, ends, unlessRefused}
-use Rattle.lova.specs.Stored.{Instance, Prepared}
-use Rattle.lova.specs.Tests.{all, every, eqZ, short, areTernary}
+use Rattle.lova.specs.Answers.{done, «yes», norm, commitment, long, member, ends, unlessRefused}
+use Rattle.lova.specs.Stored.{Instance, Message, Prepared}
+use Rattle.lova.specs.Tests.{all, every, eqZ, short, diagonalWithin, areTernary}
 use Rattle.lova.specs.Fold.{beside, above, digitWitness, gadget}
 use Rattle.lova.specs.Commit.{commitRules, instanceOf, commit}
 use Rattle.lova.specs.Relation.{relationRules, productsHold, commitmentHolds, memberWord, relation}
 use Rattle.lova.specs.Join.{joinRules, joinedInstance, join}
 use Rattle.lova.specs.Message.{messageRules, preparedOf, message}
-use Rattle.lova.specs.Verdict.{verdictRules, firstHolds, secondHolds, foldedInstance, verdictBy, verdict}
+use Rattle.lova.specs.Verdict.{verdictRules, diagonalsHold, firstHolds, secondHolds, foldedInstance, verdictBy, verdict}
 use Rattle.lova.specs.Witness.{witnessRules, foldedWitness, witness}
 use Rattle.lova.specs.Trees.{leaf, fold, plain}
 
@@ -41,6 +41,14 @@ record Example : Type 0 where
   T~₁ : ℕ
   D~₁ : ℤ
 
+-- its message with entry 1 of T~ and of D~ changed
+abbrev changed : Example → Message
+changed e = record { «V» = e .said .message .«V»; T~ = set (e .said .message .T~) 1 (e .T~₁); D~ = set (e .said .message .D~) 1 (e .D~₁) }
+
+-- an instance with another number at a place of D
+abbrev lengthened : ℕ → ℕ → Instance → Instance
+lengthened place number I = record { T = I .T; D = set (I .D) place (pos number) }
+
 -- all six operations and the plain tree give these values, whatever number x, y the outputs held
 record Right (e : Example) : Type 0 where
   commits₁ : (x : ℕ) (y : ℤ) → commit (e .setting) (e .A) (e .S₁) (record { T = replicate (length (e .I₁ .T)) x; D = replicate (length (e .I₁ .D)) y }) ≡ ends done (e .I₁)
@@ -49,7 +57,10 @@ record Right (e : Example) : Type 0 where
   joins : join (e .setting) (e .I₁) (e .I₂) (e .said .message .«V») (e .joined) ≡ ends done (e .joined)
   agrees : verdict (e .setting) (e .I₁) (e .I₂) (e .said .message) (e .C) (e .I₁) ≡ ends «yes» (e .folded)
   commitment-only : verdict (e .setting) (e .I₁) (e .I₂) (record { «V» = e .said .message .«V»; T~ = set (e .said .message .T~) 1 (e .T~₁); D~ = e .said .message .D~ }) (e .C) (e .I₁) ≡ ends commitment (e .I₁)
-  norm-first : verdict (e .setting) (e .I₁) (e .I₂) (record { «V» = e .said .message .«V»; T~ = set (e .said .message .T~) 1 (e .T~₁); D~ = set (e .said .message .D~) 1 (e .D~₁) }) (e .C) (e .I₁) ≡ ends norm (e .I₁)
+  norm-first : verdict (e .setting) (e .I₁) (e .I₂) (changed e) (e .C) (e .I₁) ≡ ends norm (e .I₁)
+  long-before-norm : verdict (e .setting) (lengthened 0 (suc (e .setting .bound)) (e .I₁)) (e .I₂) (changed e) (e .C) (e .I₁) ≡ ends long (e .I₁)
+  long-second : verdict (e .setting) (e .I₁) (lengthened (length (e .I₂ .D) - 1) (suc (e .setting .bound)) (e .I₂)) (e .said .message) (e .C) (e .I₁) ≡ ends long (e .I₁)
+  border-is-norm : verdict (e .setting) (lengthened 0 (e .setting .bound) (e .I₁)) (e .I₂) (changed e) (e .C) (e .I₁) ≡ ends norm (e .I₁)
   folds : witness (e .setting) (e .said .S~) (e .C) (e .S₁) ≡ ends done (e .S′)
   members : (relation (e .setting) (e .A) (e .folded) (e .S′)) .answer ≡ member
   plain-tree : plain (e .setting) (fold (leaf (e .S₁)) (leaf (e .S₂)) (e .C)) ≡ e .S′
@@ -123,17 +134,17 @@ twoByTwo = record {
 }
 
 oneByTwo-right : Right oneByTwo
-unfolding build sum sumℕ residue table ternary firstOf greatest LOf repunit stepOf restOf digitOf unlessRefused all every eqZ short areTernary beside above digitWitness gadget commitRules instanceOf commit relationRules productsHold commitmentHolds memberWord relation joinRules joinedInstance join messageRules preparedOf message verdictRules firstHolds secondHolds foldedInstance verdictBy verdict witnessRules foldedWitness witness plain
-oneByTwo-right = record { commits₁ = λ x y. refl; commits₂ = λ x y. refl; messages = refl; joins = refl; agrees = refl; commitment-only = refl; norm-first = refl; folds = refl; members = refl; plain-tree = refl }
+unfolding build sum sumℕ residue table ternary firstOf greatest LOf repunit stepOf restOf digitOf unlessRefused all every eqZ short diagonalWithin areTernary beside above digitWitness gadget commitRules instanceOf commit relationRules productsHold commitmentHolds memberWord relation joinRules joinedInstance join messageRules preparedOf message verdictRules diagonalsHold firstHolds secondHolds foldedInstance verdictBy verdict witnessRules foldedWitness witness plain
+oneByTwo-right = record { commits₁ = λ x y. refl; commits₂ = λ x y. refl; messages = refl; joins = refl; agrees = refl; commitment-only = refl; norm-first = refl; long-before-norm = refl; long-second = refl; border-is-norm = refl; folds = refl; members = refl; plain-tree = refl }
 
 evenBase-right : Right evenBase
-unfolding build sum sumℕ residue table ternary firstOf greatest LOf repunit stepOf restOf digitOf unlessRefused all every eqZ short areTernary beside above digitWitness gadget commitRules instanceOf commit relationRules productsHold commitmentHolds memberWord relation joinRules joinedInstance join messageRules preparedOf message verdictRules firstHolds secondHolds foldedInstance verdictBy verdict witnessRules foldedWitness witness plain
-evenBase-right = record { commits₁ = λ x y. refl; commits₂ = λ x y. refl; messages = refl; joins = refl; agrees = refl; commitment-only = refl; norm-first = refl; folds = refl; members = refl; plain-tree = refl }
+unfolding build sum sumℕ residue table ternary firstOf greatest LOf repunit stepOf restOf digitOf unlessRefused all every eqZ short diagonalWithin areTernary beside above digitWitness gadget commitRules instanceOf commit relationRules productsHold commitmentHolds memberWord relation joinRules joinedInstance join messageRules preparedOf message verdictRules diagonalsHold firstHolds secondHolds foldedInstance verdictBy verdict witnessRules foldedWitness witness plain
+evenBase-right = record { commits₁ = λ x y. refl; commits₂ = λ x y. refl; messages = refl; joins = refl; agrees = refl; commitment-only = refl; norm-first = refl; long-before-norm = refl; long-second = refl; border-is-norm = refl; folds = refl; members = refl; plain-tree = refl }
 
 twoColumns-right : Right twoColumns
-unfolding build sum sumℕ residue table ternary firstOf greatest LOf repunit stepOf restOf digitOf unlessRefused all every eqZ short areTernary beside above digitWitness gadget commitRules instanceOf commit relationRules productsHold commitmentHolds memberWord relation joinRules joinedInstance join messageRules preparedOf message verdictRules firstHolds secondHolds foldedInstance verdictBy verdict witnessRules foldedWitness witness plain
-twoColumns-right = record { commits₁ = λ x y. refl; commits₂ = λ x y. refl; messages = refl; joins = refl; agrees = refl; commitment-only = refl; norm-first = refl; folds = refl; members = refl; plain-tree = refl }
+unfolding build sum sumℕ residue table ternary firstOf greatest LOf repunit stepOf restOf digitOf unlessRefused all every eqZ short diagonalWithin areTernary beside above digitWitness gadget commitRules instanceOf commit relationRules productsHold commitmentHolds memberWord relation joinRules joinedInstance join messageRules preparedOf message verdictRules diagonalsHold firstHolds secondHolds foldedInstance verdictBy verdict witnessRules foldedWitness witness plain
+twoColumns-right = record { commits₁ = λ x y. refl; commits₂ = λ x y. refl; messages = refl; joins = refl; agrees = refl; commitment-only = refl; norm-first = refl; long-before-norm = refl; long-second = refl; border-is-norm = refl; folds = refl; members = refl; plain-tree = refl }
 
 twoByTwo-right : Right twoByTwo
-unfolding build sum sumℕ residue table ternary firstOf greatest LOf repunit stepOf restOf digitOf unlessRefused all every eqZ short areTernary beside above digitWitness gadget commitRules instanceOf commit relationRules productsHold commitmentHolds memberWord relation joinRules joinedInstance join messageRules preparedOf message verdictRules firstHolds secondHolds foldedInstance verdictBy verdict witnessRules foldedWitness witness plain
-twoByTwo-right = record { commits₁ = λ x y. refl; commits₂ = λ x y. refl; messages = refl; joins = refl; agrees = refl; commitment-only = refl; norm-first = refl; folds = refl; members = refl; plain-tree = refl }
+unfolding build sum sumℕ residue table ternary firstOf greatest LOf repunit stepOf restOf digitOf unlessRefused all every eqZ short diagonalWithin areTernary beside above digitWitness gadget commitRules instanceOf commit relationRules productsHold commitmentHolds memberWord relation joinRules joinedInstance join messageRules preparedOf message verdictRules diagonalsHold firstHolds secondHolds foldedInstance verdictBy verdict witnessRules foldedWitness witness plain
+twoByTwo-right = record { commits₁ = λ x y. refl; commits₂ = λ x y. refl; messages = refl; joins = refl; agrees = refl; commitment-only = refl; norm-first = refl; long-before-norm = refl; long-second = refl; border-is-norm = refl; folds = refl; members = refl; plain-tree = refl }

@@ -13,22 +13,26 @@ use Rattle.settings.specs.Settings.{Parameters, settingRefusal}
 use Rattle.settings.proofs.Accepted.{Accepted, accepted}
 use Rattle.lova.specs.Answers.{afterSetting, done, «yes», Outcome, ends}
 use Rattle.lova.specs.Stored.{Instance, Prepared, matrixA, matrixT, matrixS, matrixD, matrixV, matrixS~, matrixT~, matrixD~, joinedT, joinedD}
-use Rattle.lova.specs.Calls.{Fits, FitsInstance, FitsC, Short, Ternary}
+use Rattle.lova.specs.Calls.{Fits, FitsInstance, FitsC, Short, DiagonalWithin, Ternary}
 use Rattle.lova.specs.Fold.{besideS, digitWitness}
 use Rattle.lova.specs.Commit.{commit, instanceOf}
 use Rattle.lova.specs.Relation.{Related}
 use Rattle.lova.specs.Join.{join}
 use Rattle.lova.specs.Message.{message, preparedOf}
-use Rattle.lova.specs.Verdict.{verdict, verdictRules, verdictBy, firstHolds, secondHolds, foldedInstance}
+use Rattle.lova.specs.Verdict.{verdict, verdictRules, verdictBy, diagonalsHold, firstHolds, secondHolds, foldedInstance}
 use Rattle.lova.specs.Witness.{witness, foldedWitness}
 use Rattle.lova.specs.Trees.{Tree, leaf, fold, plain, Proper, Before, Held, FitsBefore, HeldFits, leftWitness, seen, prepares, viewOf, joinOf, FoldAccepted, AllAccepted, Honest}
-use Rattle.lova.proofs.Tests.{equal-iff, equal-words-iff}
+use Rattle.lova.proofs.Tests.{equal-iff, equal-words-iff, diagonals-iff}
 use Rattle.lova.proofs.Refusals.{ends-so, commit-proper, join-proper, message-proper, verdict-proper, witness-proper}
 use Rattle.lova.proofs.OneFold.{word-word, instance-fits, T-entry, D-entry, message-fits, join-is, witness-is, witness-fits, instance-is, S~-bounded, D~-bounded, witness-short, norm-holds, commitment-holds}
 
 module _ (p : Parameters) (A : List ℕ) (ok : settingRefusal p ≡ 0) (sizeA : Fits (matrixA p) A) where
   acc : Accepted p
   acc = accepted p ok
+
+  -- the diagonal of a short witness's products is within B
+  diagonal-own : (S : List ℤ) → Short p S → DiagonalWithin p (instanceOf p A S .D)
+  diagonal-own S short i hi = rw (D-entry p A S i i hi hi, gram-diagonal (p .m) (matrixS p .read S) i) (record { le = le→leb _ _ (short i hi) })
 
   -- the calls of a leaf and of a fold
   commit-ends : (S : List ℤ) (out : Instance) → Fits (matrixS p) S → Short p S → FitsInstance p out → commit p A S out ≡ ends done (instanceOf p A S)
@@ -68,17 +72,22 @@ module _ (p : Parameters) (A : List ℕ) (ok : settingRefusal p ≡ 0) (sizeA : 
       entries = D~-bounded p A S₁ S₂ acc;
     })
 
-    yes-by : (first second : Bool) (x y : Instance) → T first → T second → verdictBy first second x y ≡ ends «yes» y
+    yes-by : (within first second : Bool) (x y : Instance) → T within → T first → T second → verdictBy within first second x y ≡ ends «yes» y
     unfolding verdictBy
-    yes-by true true x y f s = refl
-    yes-by true false x y f s = absurd s
-    yes-by false second x y f s = absurd f
+    yes-by true true true x y w f s = refl
+    yes-by true true false x y w f s = absurd s
+    yes-by true false second x y w f s = absurd f
+    yes-by false first second x y w f s = absurd w
+
+    -- the diagonals of two honest instances are within B
+    within : T (diagonalsHold p I₁ I₂)
+    within = diagonals-iff p I₁ I₂ .1 (diagonal-own S₁ short₁, diagonal-own S₂ short₂)
 
     verdict-ends : verdict p I₁ I₂ (said .message) C (before .verdict) ≡ ends «yes» (instanceOf p A S′)
     unfolding verdict firstHolds secondHolds
     verdict-ends =
         ends-so (before .verdict) _ _ verdict-proceeds
-        ∙ yes-by _ _ (before .verdict) (foldedInstance p (said .message) C) (equal-iff _ _ _ _ .1 (norm-holds p A S₁ S₂ acc short₁ short₂)) (equal-words-iff _ _ _ _ .1 (commitment-holds p A S₁ S₂ acc short₁ short₂))
+        ∙ yes-by _ _ _ (before .verdict) (foldedInstance p (said .message) C) within (equal-iff _ _ _ _ .1 (norm-holds p A S₁ S₂ acc short₁ short₂)) (equal-words-iff _ _ _ _ .1 (commitment-holds p A S₁ S₂ acc short₁ short₂))
         ∙ ap (λ (x : Instance). ends «yes» x) (instance-is p A S₁ S₂ C)
 
     witness-ends : witness p (said .S~) C (before .witness) ≡ ends done S′
@@ -153,7 +162,7 @@ module _ (p : Parameters) (A : List ℕ) (ok : settingRefusal p ≡ 0) (sizeA : 
   related-own S short = record {
     commitment = λ i j hi hj. sym (ap word (T-entry p A S i j hi hj) ∙ word-word _);
     products = λ i j hi hj. D-entry p A S i j hi hj;
-    norm = λ i hi. rw (D-entry p A S i i hi hi, gram-diagonal (p .m) (matrixS p .read S) i) (record { le = le→leb _ _ (short i hi) });
+    norm = diagonal-own S short;
   }
 
   honest-inside : (t : Tree) (held : Held t) → Inside t held → Honest p A t held

@@ -9,6 +9,7 @@ pub mod WaysOut
 pub mod Numbers
 pub mod OneFold
 pub mod Honest
+pub mod ThreeTests
 pub mod Exact
 pub mod NeverWraps
 pub mod Theorems

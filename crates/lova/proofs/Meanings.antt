@@ -8,7 +8,7 @@ use Rattle.lova.specs.declared.Verdict.{Verdict}
 use Rattle.lova.specs.declared.Verdict.the-variants as Verdicts
 use Rattle.lova.specs.declared.Membership.{Membership}
 use Rattle.lova.specs.declared.Membership.the-variants as Memberships
-use Rattle.lova.specs.Answers.{Meaning, refused, answerOf, verdictOf, membershipOf}
+use Rattle.lova.specs.Answers.{answerOf, verdictOf, membershipOf}
 
 differ : _≡_ {A = ℕ} 0 1 → ⊥
 differ e = omega arith
@@ -23,18 +23,27 @@ answerOf-one-to-one (Answers.Refused r) (Answers.Refused q) e = ap Answers.Refus
 pub verdictOf-one-to-one : (x y : Verdict) → verdictOf x ≡ verdictOf y → x ≡ y
 unfolding verdictOf
 verdictOf-one-to-one Verdicts.Yes Verdicts.Yes e = refl
+verdictOf-one-to-one Verdicts.Yes Verdicts.Long e = absurd (differ (cc))
 verdictOf-one-to-one Verdicts.Yes Verdicts.Norm e = absurd (differ (cc))
 verdictOf-one-to-one Verdicts.Yes Verdicts.Commitment e = absurd (differ (cc))
 verdictOf-one-to-one Verdicts.Yes (Verdicts.Refused q) e = absurd (differ (cc))
+verdictOf-one-to-one Verdicts.Long Verdicts.Yes e = absurd (differ (cc))
+verdictOf-one-to-one Verdicts.Long Verdicts.Long e = refl
+verdictOf-one-to-one Verdicts.Long Verdicts.Norm e = absurd (differ (cc))
+verdictOf-one-to-one Verdicts.Long Verdicts.Commitment e = absurd (differ (cc))
+verdictOf-one-to-one Verdicts.Long (Verdicts.Refused q) e = absurd (differ (cc))
 verdictOf-one-to-one Verdicts.Norm Verdicts.Yes e = absurd (differ (cc))
+verdictOf-one-to-one Verdicts.Norm Verdicts.Long e = absurd (differ (cc))
 verdictOf-one-to-one Verdicts.Norm Verdicts.Norm e = refl
 verdictOf-one-to-one Verdicts.Norm Verdicts.Commitment e = absurd (differ (cc))
 verdictOf-one-to-one Verdicts.Norm (Verdicts.Refused q) e = absurd (differ (cc))
 verdictOf-one-to-one Verdicts.Commitment Verdicts.Yes e = absurd (differ (cc))
+verdictOf-one-to-one Verdicts.Commitment Verdicts.Long e = absurd (differ (cc))
 verdictOf-one-to-one Verdicts.Commitment Verdicts.Norm e = absurd (differ (cc))
 verdictOf-one-to-one Verdicts.Commitment Verdicts.Commitment e = refl
 verdictOf-one-to-one Verdicts.Commitment (Verdicts.Refused q) e = absurd (differ (cc))
 verdictOf-one-to-one (Verdicts.Refused r) Verdicts.Yes e = absurd (differ (cc))
+verdictOf-one-to-one (Verdicts.Refused r) Verdicts.Long e = absurd (differ (cc))
 verdictOf-one-to-one (Verdicts.Refused r) Verdicts.Norm e = absurd (differ (cc))
 verdictOf-one-to-one (Verdicts.Refused r) Verdicts.Commitment e = absurd (differ (cc))
 verdictOf-one-to-one (Verdicts.Refused r) (Verdicts.Refused q) e = ap Verdicts.Refused (cc)

@@ -1,21 +1,29 @@
 -- What the tests of the rules and of the verdict say.
 use mathlib.Core.Path.{_≡_, ap}
-use mathlib.Core.Logic.{_↔_, ⊎-elim}
-use mathlib.Core.Bool.{Bool}
+use mathlib.Core.Logic.{_↔_, _⊎_, inl, inr, ⊎-elim}
+use mathlib.Core.Bool.{Bool, true, false, not, _&&_}
 use mathlib.Core.List.{List}
 use Prim.Native.Nat.{ℕ, zero, suc, _*_, _/_, _%_, _<_, _≤_}
 use native.Mathlib.Omega.{arith}
 use native.Mathlib.Nat.{eq-or-lt-of-le, le-of-suc-le-suc, div-add-mod', div-lt-iff-lt-mul, mod-lt}
-use lib.Dec.{T, eqb, leb→le, le→leb, eqb→eq, eqb-refl}
+use lib.Dec.{T, not-T, eqb, leb→le, le→leb, lt→ltb, nleb→lt, eqb→eq, eqb-refl}
 use lib.IntN.{ℤ, pos, negsuc, natAbs}
 use lib.ListN.{length, getD, List·getD-eq-default}
+use lib.Signed.{leZ, _<ℤ_, clashℤ}
 use Rattle.integers.proofs.Tests.{and-fst, and-snd, and-both, le-or-lt}
 use Rattle.integers.specs.Residues.{word}
 use Rattle.matrices.specs.Matrices.{Matrix, Agree}
 use Rattle.matrices.specs.Tables.{entry, signed}
 use Rattle.settings.specs.Settings.{Parameters, NOf}
-use Rattle.lova.specs.Tests.{all, every, eqZ, equal, equalWords, short, areTernary, bounded}
-use Rattle.lova.specs.Calls.{Short, Ternary, Bounded}
+use Rattle.lova.specs.Stored.{Instance}
+use Rattle.lova.specs.Tests.{all, every, eqZ, equal, equalWords, short, diagonalWithin, areTernary, bounded}
+use Rattle.lova.specs.Calls.{Short, DiagonalWithin, DiagonalLong, Ternary, Bounded}
+use Rattle.lova.specs.Verdict.{Diagonals, diagonalsHold}
+
+-- of two tests one fails
+one-fails : (a b : Bool) → T (not (a && b)) → T (not a) ⊎ T (not b)
+one-fails true b h = inr h
+one-fails false b h = inl tt
 
 -- each number below n passes
 all-true : (n : ℕ) (P : ℕ → Bool) → ((i : ℕ) → i < n → T (P i)) → T (all n P)
@@ -30,6 +38,15 @@ all-elim (suc n) P h i l = ⊎-elim
     (λ (e : i ≡ n). rw e (and-snd (all n P) (P n) h))
     (λ (k : i < n). all-elim n P (and-fst (all n P) (P n) h) i k)
     (eq-or-lt-of-le (le-of-suc-le-suc l))
+
+-- some number below n fails
+all-fails : (n : ℕ) (P : ℕ → Bool) → T (not (all n P)) → (i : ℕ) × (i < n) × T (not (P i))
+unfolding all
+all-fails zero P h = absurd h
+all-fails (suc n) P h = ⊎-elim
+    (λ (u : T (not (all n P))). let r = all-fails n P u in (r .0, omega (arith, r .1), r .2))
+    (λ (u : T (not (P n))). (n, omega arith, u))
+    (one-fails (all n P) (P n) h)
 
 -- each entry passes
 pub every-iff : (rows cols : ℕ) (P : ℕ → ℕ → Bool) → T (every rows cols P) ↔ ((i j : ℕ) → i < rows → j < cols → T (P i j))
@@ -79,10 +96,46 @@ bounded-iff rows cols M X = (
   (λ h. every-iff rows cols _ .1 (λ i j hi hj. le→leb _ _ (h i j hi hj))),
 )
 
+-- a number that is not at most B exceeds it
+beyond : (z : ℤ) (B : ℕ) → T (not (leZ z (pos B))) → pos B <ℤ z
+beyond (pos a) B h = record { lt = lt→ltb B a (nleb→lt a B h) }
+beyond (negsuc a) B h = absurd h
+
 module _ (p : Parameters) where
   pub short-iff : (S : List ℤ) → T (short p S) ↔ Short p S
   unfolding short
   short-iff S = ((λ h j hj. leb→le _ _ (all-elim (p .t) _ h j hj)), (λ h. all-true (p .t) _ (λ j hj. le→leb _ _ (h j hj))))
+
+  diagonal-iff : (D : List ℤ) → T (diagonalWithin p D) ↔ DiagonalWithin p D
+  unfolding diagonalWithin
+  diagonal-iff D = ((λ h i hi. record { le = all-elim (p .t) _ h i hi }), (λ h. all-true (p .t) _ (λ i hi. h i hi .le)))
+
+  pub diagonals-iff : (I₁ I₂ : Instance) → T (diagonalsHold p I₁ I₂) ↔ Diagonals p I₁ I₂
+  unfolding diagonalsHold
+  diagonals-iff I₁ I₂ =
+      let a = diagonalWithin p (I₁ .D) in
+      let b = diagonalWithin p (I₂ .D) in (
+        (λ h. (diagonal-iff (I₁ .D) .0 (and-fst a b h), diagonal-iff (I₂ .D) .0 (and-snd a b h))),
+        (λ h. and-both a b (diagonal-iff (I₁ .D) .1 (h .0)) (diagonal-iff (I₂ .D) .1 (h .1))),
+      )
+
+  -- where they are not within B, an entry exceeds it
+  long-entry : (D : List ℤ) → T (not (diagonalWithin p D)) → DiagonalLong p D
+  unfolding diagonalWithin
+  long-entry D h = let r = all-fails (p .t) _ h in (r .0, r .1, beyond _ (p .bound) (r .2))
+
+  pub long-iff : (I₁ I₂ : Instance) → (Diagonals p I₁ I₂ → ⊥) ↔ (DiagonalLong p (I₁ .D) ⊎ DiagonalLong p (I₂ .D))
+  unfolding diagonalsHold
+  long-iff I₁ I₂ = (
+    (λ h. ⊎-elim
+        (λ (u : T (not (diagonalWithin p (I₁ .D)))). inl (long-entry (I₁ .D) u))
+        (λ (u : T (not (diagonalWithin p (I₂ .D)))). inr (long-entry (I₂ .D) u))
+        (one-fails (diagonalWithin p (I₁ .D)) (diagonalWithin p (I₂ .D)) (not-T (diagonalsHold p I₁ I₂) (λ t. h (diagonals-iff I₁ I₂ .0 t))))),
+    (λ l h. ⊎-elim
+        (λ (e : DiagonalLong p (I₁ .D)). clashℤ (e .2) (h .0 (e .0) (e .1)))
+        (λ (e : DiagonalLong p (I₂ .D)). clashℤ (e .2) (h .1 (e .0) (e .1)))
+        l),
+  )
 
   pub ternary-iff : (C : List ℕ) → T (areTernary p C) ↔ Ternary p C
   unfolding areTernary

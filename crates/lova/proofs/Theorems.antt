@@ -1,7 +1,7 @@
 -- What the library promises, in one place. These are theorems about the definitions of specs/, and each operation's contract is
 -- the equation with the same definition, for all inputs.
 use mathlib.Core.Path.{_≡_}
-use mathlib.Core.Logic.{_↔_, _⊎_}
+use mathlib.Core.Logic.{_↔_, _⊎_, _≢_}
 use mathlib.Core.List.{List}
 use Prim.Native.Nat.{ℕ}
 use native.Mathlib.Omega.{arith}
@@ -9,15 +9,16 @@ use lib.IntN.{ℤ}
 use Rattle.settings.specs.Settings.{Parameters, NOf, hOf, HOf, settingRefusal}
 use Rattle.lova.specs.Answers.{afterSetting, done, «yes», norm, commitment, long, products, member, refused, ends}
 use Rattle.lova.specs.Stored.{Instance, Message, Prepared, matrixA, matrixS~, matrixD~}
-use Rattle.lova.specs.Calls.{CommitLengths, RelationLengths, JoinLengths, MessageLengths, VerdictLengths, WitnessLengths, Fits, Short, Ternary, Bounded, Decided, ProperCommit, ProperRelation, ProperJoin, ProperMessage, ProperVerdict, ProperWitness}
+use Rattle.lova.specs.Calls.{CommitLengths, RelationLengths, JoinLengths, MessageLengths, VerdictLengths, WitnessLengths, Fits, Short, DiagonalWithin, DiagonalLong, Ternary, Bounded, Decided, ProperCommit, ProperRelation, ProperJoin, ProperMessage, ProperVerdict, ProperWitness}
 use Rattle.lova.specs.Tests.{short}
 use Rattle.lova.specs.Commit.{commitRules, instanceOf, commit}
 use Rattle.lova.specs.Relation.{Related, relationRules, ProductsAgree, CommitmentAgrees, memberWord, productsHold, commitmentHolds, relation}
 use Rattle.lova.specs.Join.{joinRules, joinedInstance, join}
 use Rattle.lova.specs.Message.{messageRules, preparedOf, message}
-use Rattle.lova.specs.Verdict.{FirstEquation, SecondEquation, firstHolds, secondHolds, verdictRules, verdictBy, foldedInstance, verdict}
+use Rattle.lova.specs.Verdict.{Diagonals, FirstEquation, SecondEquation, diagonalsHold, firstHolds, secondHolds, verdictRules, verdictBy, foldedInstance, verdict}
 use Rattle.lova.specs.Witness.{witnessRules, foldedWitness, witness}
 use Rattle.lova.specs.Trees.{Tree, Proper, Held, HeldFits, Honest}
+use Rattle.lova.proofs.Tests.{long-iff}
 use Rattle.lova.proofs.Refusals as Refusals
 use Rattle.lova.proofs.Refusals.{refused-by, done-ended, decides, commit-proper, relation-proper, join-proper, message-proper, verdict-proper, witness-proper}
 use Rattle.lova.proofs.Exact as Exact
@@ -50,7 +51,7 @@ module _ (p : Parameters) where
   message-decided A S₁ S₂ out = decides out _ _ _ tt done-ended (message-proper p A S₁ S₂ out)
 
   pub verdict-decided : (I₁ I₂ : Instance) (M : Message) (C : List ℕ) (out : Instance)
-      → Decided (verdict p I₁ I₂ M C out) out (verdictBy (firstHolds p I₁ I₂ M) (secondHolds p I₁ I₂ M) out (foldedInstance p M C))
+      → Decided (verdict p I₁ I₂ M C out) out (verdictBy (diagonalsHold p I₁ I₂) (firstHolds p I₁ I₂ M) (secondHolds p I₁ I₂ M) out (foldedInstance p M C))
       (afterSetting p (verdictRules p I₁ I₂ M C out)) (ProperVerdict p I₁ I₂ M C out)
   unfolding verdict verdictRules
   verdict-decided I₁ I₂ M C out = decides out _ _ _ tt (Exact.verdict-ended p I₁ I₂ M C out) (verdict-proper p I₁ I₂ M C out)
@@ -112,23 +113,38 @@ module _ (p : Parameters) where
 
   -- ---- demand 2: the verdict on a message from anyone, for a proper call
 
+  -- relation (1) bounds the diagonal by B, as the verdict does
+  pub related-within : (A : List ℕ) (I : Instance) (S : List ℤ) → Related p A I S → DiagonalWithin p (I .D)
+  related-within A I S r = r .norm
+
   module _ (I₁ I₂ : Instance) (M : Message) (C : List ℕ) (out : Instance) where
     -- whenever the answer is not yes, T' and D' are what they were; where it is yes, they are the folded instance
     pub verdict-writes : (verdict p I₁ I₂ M C out ≡ ends «yes» (foldedInstance p M C)) ⊎ ((verdict p I₁ I₂ M C out) .outputs ≡ out)
     verdict-writes = Exact.verdict-outputs p I₁ I₂ M C out
 
     module _ (proper : ProperVerdict p I₁ I₂ M C out) where
-      -- yes if and only if both equations hold
-      pub verdict-yes : ((verdict p I₁ I₂ M C out) .answer ≡ «yes») ↔ (FirstEquation p I₁ I₂ M × SecondEquation p I₁ I₂ M)
+      -- yes if and only if the diagonals are within B and both equations hold
+      pub verdict-yes : ((verdict p I₁ I₂ M C out) .answer ≡ «yes») ↔ (Diagonals p I₁ I₂ × FirstEquation p I₁ I₂ M × SecondEquation p I₁ I₂ M)
       verdict-yes = Exact.yes-exactly p I₁ I₂ M C out proper
 
-      -- norm if and only if the first fails
-      pub verdict-norm : ((verdict p I₁ I₂ M C out) .answer ≡ norm) ↔ (FirstEquation p I₁ I₂ M → ⊥)
+      -- long if and only if they are not, that is, if and only if a diagonal entry of D1 or D2 exceeds B
+      pub verdict-long : ((verdict p I₁ I₂ M C out) .answer ≡ long) ↔ (Diagonals p I₁ I₂ → ⊥)
+      verdict-long = Exact.long-exactly p I₁ I₂ M C out proper
+
+      pub verdict-long-entry : ((verdict p I₁ I₂ M C out) .answer ≡ long) ↔ (DiagonalLong p (I₁ .D) ⊎ DiagonalLong p (I₂ .D))
+      verdict-long-entry = via verdict-long (long-iff p I₁ I₂)
+
+      -- norm if and only if the diagonals are within B and the first equation fails
+      pub verdict-norm : ((verdict p I₁ I₂ M C out) .answer ≡ norm) ↔ (Diagonals p I₁ I₂ × (FirstEquation p I₁ I₂ M → ⊥))
       verdict-norm = Exact.norm-exactly p I₁ I₂ M C out proper
 
       -- commitment if and only if only the second fails
-      pub verdict-commitment : ((verdict p I₁ I₂ M C out) .answer ≡ commitment) ↔ (FirstEquation p I₁ I₂ M × (SecondEquation p I₁ I₂ M → ⊥))
+      pub verdict-commitment : ((verdict p I₁ I₂ M C out) .answer ≡ commitment) ↔ (Diagonals p I₁ I₂ × FirstEquation p I₁ I₂ M × (SecondEquation p I₁ I₂ M → ⊥))
       verdict-commitment = Exact.commitment-exactly p I₁ I₂ M C out proper
+
+      -- instances that have witnesses in relation (1) are never long
+      pub related-never-long : (A : List ℕ) (S₁ S₂ : List ℤ) → Related p A I₁ S₁ → Related p A I₂ S₂ → (verdict p I₁ I₂ M C out) .answer ≢ long
+      related-never-long A S₁ S₂ r₁ r₂ e = verdict-long .0 e (related-within A I₁ S₁ r₁, related-within A I₂ S₂ r₂)
 
   -- ---- demand 2: the relation test, for a proper call
 
@@ -139,7 +155,7 @@ module _ (p : Parameters) where
 
     -- long if and only if a column is above B
     pub relation-long : ((relation p A I S) .answer ≡ long) ↔ (Short p S → ⊥)
-    relation-long = Exact.long-exactly p A I S proper
+    relation-long = Exact.relation-long-exactly p A I S proper
 
     -- products if and only if no column is, and S-transposed S is not D
     pub relation-products : ((relation p A I S) .answer ≡ products) ↔ (Short p S × (ProductsAgree p A I S → ⊥))

@@ -3,8 +3,9 @@ use mathlib.Core.Path.{_≡_}
 use mathlib.Core.Logic.{_↔_}
 use mathlib.Core.List.{List}
 use Prim.Native.Nat.{ℕ, _<_, _≤_}
-use lib.IntN.{ℤ, natAbs}
+use lib.IntN.{ℤ, pos, natAbs}
 use lib.ListN.{length}
+use lib.Signed.{_≤ℤ_, _<ℤ_}
 use Rattle.matrices.specs.Matrices.{Matrix, squaredLength}
 use Rattle.matrices.specs.Tables.{entry}
 use Rattle.settings.specs.Rules.{Rule, First}
@@ -35,6 +36,14 @@ FitsC p C = length C ≡ sizeC p
 -- each column of S has a squared length of at most B
 abbrev pub Short : Parameters → List ℤ → Type 0
 Short p S = (j : ℕ) → j < p .t → squaredLength (p .m) (matrixS p .read S) j ≤ p .bound
+
+-- each diagonal entry of D is at most B
+abbrev pub DiagonalWithin : Parameters → List ℤ → Type 0
+DiagonalWithin p D = (i : ℕ) → i < p .t → matrixD p .read D i i ≤ℤ pos (p .bound)
+
+-- a diagonal entry of D exceeds B
+abbrev pub DiagonalLong : Parameters → List ℤ → Type 0
+DiagonalLong p D = (i : ℕ) × (i < p .t) × (pos (p .bound) <ℤ matrixD p .read D i i)
 
 -- each byte of C is 0, 1 or 2
 abbrev pub Ternary : Parameters → List ℕ → Type 0

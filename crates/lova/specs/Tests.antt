@@ -5,6 +5,7 @@ use Prim.Native.Nat.{ℕ, zero, suc}
 use lib.Dec.{leb, eqb}
 use lib.IntN.{ℤ, pos, negsuc, natAbs}
 use lib.ListN.{length}
+use lib.Signed.{leZ}
 use Rattle.integers.specs.Residues.{word}
 use Rattle.matrices.specs.Matrices.{Matrix, squaredLength}
 use Rattle.matrices.specs.Tables.{entry}
@@ -58,6 +59,10 @@ fitsC p C = eqb (length C) (sizeC p)
 -- whether each column of S has a squared length of at most B
 unfoldable pub short : Parameters → List ℤ → Bool
 short p S = all (p .t) (λ j. leb (squaredLength (p .m) (matrixS p .read S) j) (p .bound))
+
+-- whether each diagonal entry of D is at most B
+unfoldable pub diagonalWithin : Parameters → List ℤ → Bool
+diagonalWithin p D = all (p .t) (λ i. leZ (matrixD p .read D i i) (pos (p .bound)))
 
 -- whether each byte of C is 0, 1 or 2
 unfoldable pub areTernary : Parameters → List ℕ → Bool

@@ -6,9 +6,10 @@ use Rattle.integers.specs.Residues.{word}
 use Rattle.matrices.specs.Matrices.{product, bothSides, Agree}
 use Rattle.settings.specs.Rules.{Rule, _gives_, firstOf}
 use Rattle.settings.specs.Settings.{Parameters, NOf, HOf}
-use Rattle.lova.specs.Answers.{afterSetting, «yes», norm, commitment, Outcome, ends, unlessRefused}
+use Rattle.lova.specs.Answers.{afterSetting, «yes», long, norm, commitment, Outcome, ends, unlessRefused}
 use Rattle.lova.specs.Stored.{Instance, Message, matrixT, matrixD, matrixT~, matrixD~, readC}
-use Rattle.lova.specs.Tests.{equal, equalWords, bounded, fitsInstance, fitsMessage, fitsC, areTernary}
+use Rattle.lova.specs.Tests.{equal, equalWords, bounded, fitsInstance, fitsMessage, fitsC, diagonalWithin, areTernary}
+use Rattle.lova.specs.Calls.{DiagonalWithin}
 use Rattle.lova.specs.Fold.{besideT, blocksD, gadget}
 
 -- after 1 to 6: 7 for a length; 9 for a byte of C above 2; 10 for an entry of D~ above H or below −H
@@ -18,6 +19,15 @@ verdictRules p I₁ I₂ M C out =
     ∷ (not (areTernary p C) gives 9)
     ∷ (not (bounded (NOf p) (NOf p) (HOf p) (matrixD~ p .read (M .D~))) gives 10)
     ∷ []
+
+module _ (p : Parameters) (I₁ I₂ : Instance) where
+  -- no diagonal entry of D1 or D2 exceeds B
+  abbrev pub Diagonals : Type 0
+  Diagonals = DiagonalWithin p (I₁ .D) × DiagonalWithin p (I₂ .D)
+
+  -- its test
+  unfoldable pub diagonalsHold : Bool
+  diagonalsHold = diagonalWithin p (I₁ .D) && diagonalWithin p (I₂ .D)
 
 module _ (p : Parameters) (I₁ I₂ : Instance) (M : Message) where
   -- the first equation: D recomposed from D~ by G on both sides equals D in whole numbers
@@ -42,11 +52,14 @@ foldedInstance p M C = record {
   D = matrixD p .write (bothSides (NOf p) (readC p C) (matrixD~ p .read (M .D~)));
 }
 
--- norm where the first fails, commitment where only the second fails, else yes; T' and D' are written on yes alone
-unfoldable pub verdictBy : Bool → Bool → Instance → Instance → Outcome Instance
-verdictBy first second before after = cond (not first) (ends norm before) (cond (not second) (ends commitment before) (ends «yes» after))
+-- long where a diagonal entry exceeds B; else norm where the first equation fails, commitment where only the second fails, else
+-- yes; T' and D' are written on yes alone
+unfoldable pub verdictBy : Bool → Bool → Bool → Instance → Instance → Outcome Instance
+verdictBy within first second before after =
+    cond (not within) (ends long before)
+    (cond (not first) (ends norm before) (cond (not second) (ends commitment before) (ends «yes» after)))
 
 unfoldable pub verdict : Parameters → Instance → Instance → Message → List ℕ → Instance → Outcome Instance
 verdict p I₁ I₂ M C out =
     unlessRefused (firstOf (afterSetting p (verdictRules p I₁ I₂ M C out))) out
-    (verdictBy (firstHolds p I₁ I₂ M) (secondHolds p I₁ I₂ M) out (foldedInstance p M C))
+    (verdictBy (diagonalsHold p I₁ I₂) (firstHolds p I₁ I₂ M) (secondHolds p I₁ I₂ M) out (foldedInstance p M C))

@@ -9,6 +9,7 @@ pub enum Answer {
 // Of the verdict.
 pub enum Verdict {
     Yes,
+    Long,
     Norm,
     Commitment,
     Refused(u8),

@@ -1,7 +1,7 @@
 // The points about single entries: digits, and witnesses of Setting 1.
 ghost use Prim.Native.Nat.{_≤_};
 use super::example;
-use super::lines;
+use shown::lines;
 
 pub(crate) fn five_digits(x: i64, b: u64)
     requires { ⌜ 2 ≤ b ⌝ }

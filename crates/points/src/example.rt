@@ -1,8 +1,8 @@
 // Document 01's fold: Setting 1 with A = 3, witnesses 7 and -5. Outputs hold 111, -222 or -333 before.
-use super::lines;
-use super::print;
 use lova::Answer;
 use settings::Setting;
+use shown::lines;
+use shown::print;
 
 const A: [u64; 1] = [3];
 
@@ -66,9 +66,9 @@ fn verdicts(
 ) {
     lines::message(given, v, tt, ss);
     folded(setting, t1, d1, t2, d2, v, tt, &dd, ss);
-    spoiled(setting, t1, d1, t2, d2, v, tt, dd, 0, 0);
-    spoiled(setting, t1, d1, t2, d2, v, tt, dd, 2, 0);
-    spoiled(setting, t1, d1, t2, d2, v, tt, dd, 2, 3);
+    lines::spoiled(setting, t1, d1, t2, d2, v, tt, dd, 0, 0);
+    lines::spoiled(setting, t1, d1, t2, d2, v, tt, dd, 2, 0);
+    lines::spoiled(setting, t1, d1, t2, d2, v, tt, dd, 2, 3);
 }
 
 // The fold by C, and its end.
@@ -91,27 +91,4 @@ fn folded(
     lines::verdict(setting, t1, d1, t2, d2, v, tt, dd, c, &mut t, &mut d);
     lines::folded_witness(setting, ss, c, &mut s);
     lines::relation_test(setting, &A, &t, &d, &s);
-}
-
-// The verdict with another last entry of D~ (the honest one is 0) and a C of zeros but its last byte.
-fn spoiled(
-    setting: Setting,
-    t1: &[u64],
-    d1: &[i64],
-    t2: &[u64],
-    d2: &[i64],
-    v: &[i64],
-    tt: &[u64],
-    mut dd: [i64; 100],
-    last: i64,
-    byte: u8,
-) {
-    print::signed(b"D~ ends in ", last);
-    print::number(b" and C in ", byte as u64);
-    dd[99] = last;
-    let mut c = [0u8; 10];
-    c[9] = byte;
-    let mut t = [111u64; 1];
-    let mut d = [-222i64; 1];
-    lines::verdict(setting, t1, d1, t2, d2, v, tt, &dd, &c, &mut t, &mut d);
 }

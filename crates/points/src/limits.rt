@@ -1,7 +1,7 @@
 // The points about settings: the constructor and the house list.
-use super::answers;
-use super::print;
 use settings::Setting;
+use shown::answers;
+use shown::print;
 
 const FOUR_TO_24: u64 = 281474976710656;
 

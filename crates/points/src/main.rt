@@ -1,13 +1,12 @@
 // Runs document 01's points on the library, and writes what it answers; the check compares that with `stdout`. No
 // contract can say what is written, so the functions here promise only that they are safe and end.
-mod answers;
 mod entries;
 mod example;
 mod limits;
-mod lines;
 mod pairs;
-mod print;
 mod wrong;
+
+use shown::print;
 
 fn main() {
     print::text(b"Points to hold against\n");

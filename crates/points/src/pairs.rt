@@ -1,10 +1,10 @@
 // A fold at t = 2, where what is plausible and wrong shows, since columns and powers, and V and its transpose, differ:
 // k = 4, N = 16, h = 1, H = 2. Outputs hold 111, -222 or -333 before.
-use super::answers;
-use super::lines;
-use super::print;
 use lova::Answer;
 use settings::Setting;
+use shown::answers;
+use shown::lines;
+use shown::print;
 
 const A: [u64; 2] = [3, 18446744073709551615];
 

@@ -2,7 +2,7 @@
 // equation modulo 2^64 does not show: width keeps what is recomposed within 2^62, and D is a signed word.
 use super::entries;
 use super::example;
-use super::lines;
+use shown::lines;
 
 pub(crate) fn points() {
     // By the remainder of a negative entry its digit would be 1 and the rest -1 again, without end.

@@ -36,6 +36,7 @@ fn put_verdict(out: &mut [u8], at: usize, verdict: Verdict) -> usize
 {
     match verdict {
         Verdict::Yes => field_writers::put_bytes(out, at, b"\tyes"),
+        Verdict::Long => field_writers::put_bytes(out, at, b"\tlong"),
         Verdict::Norm => field_writers::put_bytes(out, at, b"\tnorm"),
         Verdict::Commitment => field_writers::put_bytes(out, at, b"\tcommitment"),
         Verdict::Refused(_) => field_writers::put_bytes(out, at, b"\trefused"),

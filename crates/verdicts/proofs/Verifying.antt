@@ -12,10 +12,10 @@ use Rattle.matrices.specs.Matrices.{product, bothSides}
 use Rattle.matrices.specs.Tables.{table, signed, unsigned, challenge}
 use Rattle.settings.specs.declared.Setting.{Setting}
 use Rattle.settings.specs.Settings.{Parameters, NOf, HOf, parametersOf}
-use Rattle.lova.specs.Answers.{«yes», norm, commitment, ends}
+use Rattle.lova.specs.Answers.{«yes», long, norm, commitment, Outcome, ends}
 use Rattle.lova.specs.Stored.{Instance, Message}
 use Rattle.lova.specs.Calls.{Rebuilt, ProperVerdict}
-use Rattle.lova.specs.Verdict.{firstHolds, secondHolds, foldedInstance, verdictBy}
+use Rattle.lova.specs.Verdict.{diagonalsHold, firstHolds, secondHolds, foldedInstance, verdictBy}
 use Rattle.lova.proofs.Tests.{bounded-everywhere}
 use Rattle.lova.proofs.Rebuilding.{rebuilt-accepted, N-is, N-high}
 
@@ -41,21 +41,29 @@ module _ (s : Setting) (whole : Rebuilt s) (I₁ I₂ : Instance) (M : Message) 
         l .4 .1,
       )
 
-  -- the three answers
-  pub norm-answer : firstHolds q I₁ I₂ M ≡ false → ends norm out ≡ verdictBy (firstHolds q I₁ I₂ M) (secondHolds q I₁ I₂ M) out (foldedInstance q M C)
-  unfolding verdictBy
-  norm-answer e = rw e refl
+  -- what is answered, by the three tests
+  abbrev judged : Outcome Instance
+  judged = verdictBy (diagonalsHold q I₁ I₂) (firstHolds q I₁ I₂ M) (secondHolds q I₁ I₂ M) out (foldedInstance q M C)
 
-  pub commitment-answer : firstHolds q I₁ I₂ M ≡ true → secondHolds q I₁ I₂ M ≡ false → ends commitment out ≡ verdictBy (firstHolds q I₁ I₂ M) (secondHolds q I₁ I₂ M) out (foldedInstance q M C)
+  -- the four answers
+  pub long-answer : diagonalsHold q I₁ I₂ ≡ false → ends long out ≡ judged
   unfolding verdictBy
-  commitment-answer e f = rw (e, f) refl
+  long-answer w = rw w refl
 
-  pub yes-answer : firstHolds q I₁ I₂ M ≡ true → secondHolds q I₁ I₂ M ≡ true → (T′ : List ℕ) (D′ : List ℤ)
+  pub norm-answer : diagonalsHold q I₁ I₂ ≡ true → firstHolds q I₁ I₂ M ≡ false → ends norm out ≡ judged
+  unfolding verdictBy
+  norm-answer w e = rw (w, e) refl
+
+  pub commitment-answer : diagonalsHold q I₁ I₂ ≡ true → firstHolds q I₁ I₂ M ≡ true → secondHolds q I₁ I₂ M ≡ false → ends commitment out ≡ judged
+  unfolding verdictBy
+  commitment-answer w e f = rw (w, e, f) refl
+
+  pub yes-answer : diagonalsHold q I₁ I₂ ≡ true → firstHolds q I₁ I₂ M ≡ true → secondHolds q I₁ I₂ M ≡ true → (T′ : List ℕ) (D′ : List ℤ)
       → T′ ≡ table (s .n) (s .t) (λ i j. word (product (s .columns) (unsigned (s .columns) (M .T~)) (challenge (s .t) C) i j))
       → D′ ≡ table (s .t) (s .t) (bothSides (s .columns) (challenge (s .t) C) (signed (s .columns) (M .D~)))
-      → ends «yes» (record { T = T′; D = D′ }) ≡ verdictBy (firstHolds q I₁ I₂ M) (secondHolds q I₁ I₂ M) out (foldedInstance q M C)
+      → ends «yes» (record { T = T′; D = D′ }) ≡ judged
   unfolding verdictBy foldedInstance
-  yes-answer e f T′ D′ t d =
+  yes-answer w e f T′ D′ t d =
       let commitments = t ∙ ap (λ (N : ℕ). table (s .n) (s .t) (λ i j. word (product N (unsigned N (M .T~)) (challenge (s .t) C) i j))) (N-is s whole) in
       let squares = d ∙ ap (λ (N : ℕ). table (s .t) (s .t) (bothSides N (challenge (s .t) C) (signed N (M .D~)))) (N-is s whole) in
-      rw (e, f) (ap₂ (λ (x : List ℕ) (y : List ℤ). ends «yes» (record { T = x; D = y })) commitments squares)
+      rw (w, e, f) (ap₂ (λ (x : List ℕ) (y : List ℤ). ends «yes» (record { T = x; D = y })) commitments squares)

@@ -83,10 +83,13 @@ pub fn joined_entry(t: usize, left: &Node, right: &Node, v: &[i64], i: usize, j:
     word as i128
 }
 
-/// The answer that the two equations call for, worked out entry by entry from their sums.
-pub fn by_equations(p: &Parameters, left: &Node, right: &Node, v: &[i64], tt: &[u64], dd: &[i64]) -> &'static str {
+/// The answer that the diagonals and the two equations call for, worked out entry by entry.
+pub fn by_entries(p: &Parameters, left: &Node, right: &Node, v: &[i64], tt: &[u64], dd: &[i64]) -> &'static str {
     let (n, t, k) = (p.n as usize, p.t as usize, p.k() as usize);
     let columns = 2 * k * t;
+    if (0..2 * t).any(|i| joined_entry(t, left, right, v, i, i) > p.bound as i128) {
+        return "long";
+    }
     for i in 0..2 * t {
         for j in 0..2 * t {
             let mut sum = 0i128;

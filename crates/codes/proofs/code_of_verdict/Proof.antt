@@ -14,6 +14,9 @@ enum-told-2 c = search needs
 enum-told-3 : tie.Need-enum-told-3
 enum-told-3 c = search needs
 
+enum-told-4 : tie.Need-enum-told-4
+enum-told-4 c = search needs
+
 enum-known-verdict : tie.Need-enum-known-verdict
 enum-known-verdict c = search needs
 
@@ -33,6 +36,10 @@ returns-4 : tie.Need-returns-4
 unfolding verdictOf codeOf
 returns-4 c = search needs
 
+returns-5 : tie.Need-returns-5
+unfolding verdictOf codeOf
+returns-5 c = search needs
+
 pub code-of-verdict-spec : {M : Type 1} → statement M
 code-of-verdict-spec =
     tie.close
@@ -40,8 +47,10 @@ code-of-verdict-spec =
     enum-told
     enum-told-2
     enum-told-3
+    enum-told-4
     enum-known-verdict
     returns
     returns-2
     returns-3
-    returns-4)
+    returns-4
+    returns-5)

@@ -45,6 +45,15 @@ slice-aggregate-put-bytes-4 c = search needs
 put-bytes-requires-4 : tie.Need-put-bytes-requires-4
 put-bytes-requires-4 c κs = search needs
 
+enum-told-5 : tie.Need-enum-told-5
+enum-told-5 c = search needs
+
+slice-aggregate-put-bytes-5 : tie.Need-slice-aggregate-put-bytes-5
+slice-aggregate-put-bytes-5 c = search needs
+
+put-bytes-requires-5 : tie.Need-put-bytes-requires-5
+put-bytes-requires-5 c κs = search needs
+
 same-length : tie.Need-same-length
 same-length c = search needs
 
@@ -62,7 +71,7 @@ returns-2 : tie.Need-returns-2
 unfolding wordOf verdictOf
 returns-2 c =
     let s = c .before .before .before .before .before .before .before .before .args in
-    word-put (s .out .now) (c .before .before .put-bytes2 .last .0) (wordOf (verdictOf (s .verdict))) (110 ∷ 111 ∷ 114 ∷ 109 ∷ []) (s .at) (c .before .before .put-bytes2 .result)
+    word-put (s .out .now) (c .before .before .put-bytes2 .last .0) (wordOf (verdictOf (s .verdict))) (108 ∷ 111 ∷ 110 ∷ 103 ∷ []) (s .at) (c .before .before .put-bytes2 .result)
     (ap (λ v. wordOf (verdictOf v)) (c .before .before .before .before .before .enum-told2 .given .1)) (omega arith) (c .before .before .put-bytes2 .ensures)
 
 same-length-3 : tie.Need-same-length-3
@@ -72,7 +81,7 @@ returns-3 : tie.Need-returns-3
 unfolding wordOf verdictOf
 returns-3 c =
     let s = c .before .before .before .before .before .before .before .before .args in
-    word-put (s .out .now) (c .before .before .put-bytes3 .last .0) (wordOf (verdictOf (s .verdict))) (99 ∷ 111 ∷ 109 ∷ 109 ∷ 105 ∷ 116 ∷ 109 ∷ 101 ∷ 110 ∷ 116 ∷ []) (s .at) (c .before .before .put-bytes3 .result)
+    word-put (s .out .now) (c .before .before .put-bytes3 .last .0) (wordOf (verdictOf (s .verdict))) (110 ∷ 111 ∷ 114 ∷ 109 ∷ []) (s .at) (c .before .before .put-bytes3 .result)
     (ap (λ v. wordOf (verdictOf v)) (c .before .before .before .before .before .enum-told3 .given .1)) (omega arith) (c .before .before .put-bytes3 .ensures)
 
 same-length-4 : tie.Need-same-length-4
@@ -82,8 +91,18 @@ returns-4 : tie.Need-returns-4
 unfolding wordOf verdictOf
 returns-4 c =
     let s = c .before .before .before .before .before .before .before .before .args in
-    word-put (s .out .now) (c .before .before .put-bytes4 .last .0) (wordOf (verdictOf (s .verdict))) (114 ∷ 101 ∷ 102 ∷ 117 ∷ 115 ∷ 101 ∷ 100 ∷ []) (s .at) (c .before .before .put-bytes4 .result)
+    word-put (s .out .now) (c .before .before .put-bytes4 .last .0) (wordOf (verdictOf (s .verdict))) (99 ∷ 111 ∷ 109 ∷ 109 ∷ 105 ∷ 116 ∷ 109 ∷ 101 ∷ 110 ∷ 116 ∷ []) (s .at) (c .before .before .put-bytes4 .result)
     (ap (λ v. wordOf (verdictOf v)) (c .before .before .before .before .before .enum-told4 .given .1)) (omega arith) (c .before .before .put-bytes4 .ensures)
+
+same-length-5 : tie.Need-same-length-5
+same-length-5 c = search needs
+
+returns-5 : tie.Need-returns-5
+unfolding wordOf verdictOf
+returns-5 c =
+    let s = c .before .before .before .before .before .before .before .before .args in
+    word-put (s .out .now) (c .before .before .put-bytes5 .last .0) (wordOf (verdictOf (s .verdict))) (114 ∷ 101 ∷ 102 ∷ 117 ∷ 115 ∷ 101 ∷ 100 ∷ []) (s .at) (c .before .before .put-bytes5 .result)
+    (ap (λ v. wordOf (verdictOf v)) (c .before .before .before .before .before .enum-told5 .given .1)) (omega arith) (c .before .before .put-bytes5 .ensures)
 
 pub put-verdict-spec : {M : Type 1} → statement M
 put-verdict-spec =
@@ -101,6 +120,9 @@ put-verdict-spec =
     enum-told-4
     slice-aggregate-put-bytes-4
     put-bytes-requires-4
+    enum-told-5
+    slice-aggregate-put-bytes-5
+    put-bytes-requires-5
     same-length
     returns
     same-length-2
@@ -108,4 +130,6 @@ put-verdict-spec =
     same-length-3
     returns-3
     same-length-4
-    returns-4)
+    returns-4
+    same-length-5
+    returns-5)

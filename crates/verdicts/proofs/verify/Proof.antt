@@ -1,5 +1,5 @@
--- `verdicts::verify` meets its contract: refused by the setting's rules or by its own, or judged by the first
--- equation, then the second; T' and D' are written only where both hold.
+-- `verdicts::verify` meets its contract: refused by the setting's rules or by its own, or judged by the diagonals, then the
+-- first equation, then the second; T' and D' are written only where all three hold.
 use borrow.Author.Needs.{needs}
 use borrow.Author.Tests.{not-true, not-false}
 use mathlib.Core.Path.{_≡_, sym, _∙_}
@@ -10,11 +10,11 @@ use Rattle.settings.specs.Settings.{Parameters, parametersOf}
 use Rattle.lova.specs.Answers.{verdictOf, Outcome}
 use Rattle.lova.specs.Stored.{Instance, Message}
 use Rattle.lova.specs.Calls.{ProperVerdict, Rebuilt}
-use Rattle.lova.specs.Verdict.{verdictRules, firstHolds, secondHolds, foldedInstance, verdictBy, verdict}
+use Rattle.lova.specs.Verdict.{verdictRules, diagonalsHold, firstHolds, secondHolds, foldedInstance, verdictBy, verdict}
 use Rattle.lova.proofs.Refusals.{verdict-proper}
 use Rattle.lova.proofs.Rebuilding.{rebuilt}
 use Rattle.lova.proofs.WaysOut.{out-by-setting, out-by-own, none-applied, out-at-end}
-use Rattle.verdicts.proofs.Verifying.{fold-asks, norm-answer, commitment-answer, yes-answer}
+use Rattle.verdicts.proofs.Verifying.{fold-asks, long-answer, norm-answer, commitment-answer, yes-answer}
 use Rattle.verdicts.proofs.verify.Statement.{statement}
 use Rattle.verdicts.proofs.verify.Tie as tie
 
@@ -36,7 +36,7 @@ module _ (s : tie.Start) where
   rules p = verdictRules p first second message (s .args .c .now) out
 
   abbrev answer : Parameters → Outcome Instance
-  answer p = verdictBy (firstHolds p first second message) (secondHolds p first second message) out (foldedInstance p message (s .args .c .now))
+  answer p = verdictBy (diagonalsHold p first second) (firstHolds p first second message) (secondHolds p first second message) out (foldedInstance p message (s .args .c .now))
 
 -- the entry, and the setting that was built anew
 abbrev start : tie.After-rebuilt → tie.Start
@@ -83,7 +83,7 @@ returns-2 c =
     let s = start n in
     out-by-own (rules s) (out s) (answer s) (parametersOf (s .args .setting)) (n .rebuilt .result) (n .rebuilt .ensures) (e .if1 .left) (w .verdict-refusal .result) (w .verdict-refusal .ensures) (c .if2 .taken)
 
--- past the refusals the call is proper, and the answer is that of the two tests
+-- past the refusals the call is proper, and the answer is that of the three tests
 proper : (c : tie.Else2) →
     let n = new-at c in
     let s = start n in
@@ -104,31 +104,58 @@ answers c =
     let s = start n in
     out-at-end (rules s) (out s) (answer s) (parametersOf (s .args .setting)) (n .rebuilt .result) (n .rebuilt .ensures) (else-1 c .if1 .left) (c .before .verdict-refusal .result) (c .before .verdict-refusal .ensures) (c .if2 .left)
 
-norm-holds-requires : tie.Need-norm-holds-requires
-norm-holds-requires c κs =
-    let l = proper c .lengths in
-    ((again (else-1 c), l .0 .1, l .2 .0, l .1 .1), (l .2 .2, proper c .entries))
+-- from past each test to past the one before it
+abbrev else-2 : tie.Else3 → tie.Else2
+else-2 c = c .before .before
+
+abbrev else-3 : tie.Else4 → tie.Else3
+else-3 c = c .before .before
+
+abbrev else-4 : tie.Else5 → tie.Else4
+else-4 c = c .before .before
+
+diagonals-hold-requires : tie.Need-diagonals-hold-requires
+diagonals-hold-requires c κs = let l = proper c .lengths in (l .0 .1, l .1 .1)
 
 -- what each test's outcome says
-first-is : (c : tie.After-norm-holds) →
+diagonals-are : (c : tie.After-diagonals-hold) →
     let n = new-at (c .before) in
+    let s = start n in
+    diagonalsHold (anew n) (first s) (second s) ≡ c .diagonals-hold .result
+unfolding diagonalsHold
+diagonals-are c = sym (c .diagonals-hold .ensures)
+
+first-is : (c : tie.After-norm-holds) →
+    let n = new-at (else-2 (c .before)) in
     let s = start n in
     firstHolds (anew n) (first s) (second s) (message s) ≡ c .norm-holds .result
 unfolding firstHolds
 first-is c = sym (c .norm-holds .ensures)
 
 second-is : (c : tie.After-commitment-holds) →
-    let n = new-at (c .before .before .before) in
+    let n = new-at (else-2 (else-3 (c .before))) in
     let s = start n in
     secondHolds (anew n) (first s) (second s) (message s) ≡ c .commitment-holds .result
 unfolding secondHolds
 second-is c = sym (c .commitment-holds .ensures)
 
-first-passed : (c : tie.Else3) →
-    let n = new-at (c .before .before) in
+diagonals-passed : (c : tie.Else3) →
+    let n = new-at (else-2 c) in
+    let s = start n in
+    diagonalsHold (anew n) (first s) (second s) ≡ true
+diagonals-passed c = diagonals-are (c .before) ∙ not-false _ (c .if3 .left)
+
+first-passed : (c : tie.Else4) →
+    let n = new-at (else-2 (else-3 c)) in
     let s = start n in
     firstHolds (anew n) (first s) (second s) (message s) ≡ true
-first-passed c = first-is (c .before) ∙ not-false _ (c .if3 .left)
+first-passed c = first-is (c .before) ∙ not-false _ (c .if4 .left)
+
+second-passed : (c : tie.Else5) →
+    let n = new-at (else-2 (else-3 (else-4 c))) in
+    let s = start n in
+    secondHolds (anew n) (first s) (second s) (message s) ≡ true
+second-passed c = second-is (c .before) ∙ not-false _ (c .if5 .left)
 
 same-length-3 : tie.Need-same-length-3
 same-length-3 c = search needs
@@ -142,14 +169,14 @@ returns-3 c =
     let e = c .before .before in
     let n = new-at e in
     let s = start n in
-    norm-answer (n .rebuilt .result .setting) (again (else-1 e)) (first s) (second s) (message s) (s .args .c .now) (out s) (proper e) (first-is (c .before) ∙ not-true _ (c .if3 .taken))
+    long-answer (n .rebuilt .result .setting) (again (else-1 e)) (first s) (second s) (message s) (s .args .c .now) (out s) (proper e) (diagonals-are (c .before) ∙ not-true _ (c .if3 .taken))
     ∙ answers e
 
-commitment-holds-requires : tie.Need-commitment-holds-requires
-commitment-holds-requires c κs =
-    let e = c .before .before in
+norm-holds-requires : tie.Need-norm-holds-requires
+norm-holds-requires c κs =
+    let e = else-2 c in
     let l = proper e .lengths in
-    (again (else-1 e), l .0 .0, l .1 .0, l .2 .1)
+    ((again (else-1 e), l .0 .1, l .2 .0, l .1 .1), (l .2 .2, proper e .entries))
 
 same-length-5 : tie.Need-same-length-5
 same-length-5 c = search needs
@@ -160,19 +187,18 @@ same-length-6 c = search needs
 returns-4 : tie.Need-returns-4
 unfolding verdictOf
 returns-4 c =
-    let f = c .before .before in
-    let e = f .before .before in
+    let w = c .before .before in
+    let e = else-2 w in
     let n = new-at e in
     let s = start n in
-    commitment-answer (n .rebuilt .result .setting) (again (else-1 e)) (first s) (second s) (message s) (s .args .c .now) (out s) (proper e) (first-passed f) (second-is (c .before) ∙ not-true _ (c .if4 .taken))
+    norm-answer (n .rebuilt .result .setting) (again (else-1 e)) (first s) (second s) (message s) (s .args .c .now) (out s) (proper e) (diagonals-passed w) (first-is (c .before) ∙ not-true _ (c .if4 .taken))
     ∙ answers e
 
-fold-instance-requires : tie.Need-fold-instance-requires
-fold-instance-requires c κs =
-    let e = c .before .before .before .before .before .before in
-    let n = new-at e in
-    let s = start n in
-    fold-asks (n .rebuilt .result .setting) (again (else-1 e)) (first s) (second s) (message s) (s .args .c .now) (out s) (proper e)
+commitment-holds-requires : tie.Need-commitment-holds-requires
+commitment-holds-requires c κs =
+    let e = else-2 (else-3 c) in
+    let l = proper e .lengths in
+    (again (else-1 e), l .0 .0, l .1 .0, l .2 .1)
 
 same-length-7 : tie.Need-same-length-7
 same-length-7 c = search needs
@@ -183,13 +209,38 @@ same-length-8 c = search needs
 returns-5 : tie.Need-returns-5
 unfolding verdictOf
 returns-5 c =
+    let f = c .before .before in
+    let w = else-3 f in
+    let e = else-2 w in
+    let n = new-at e in
+    let s = start n in
+    commitment-answer (n .rebuilt .result .setting) (again (else-1 e)) (first s) (second s) (message s) (s .args .c .now) (out s) (proper e) (diagonals-passed w) (first-passed f) (second-is (c .before) ∙ not-true _ (c .if5 .taken))
+    ∙ answers e
+
+fold-instance-requires : tie.Need-fold-instance-requires
+fold-instance-requires c κs =
+    let e = else-2 (else-3 (else-4 (c .before .before))) in
+    let n = new-at e in
+    let s = start n in
+    fold-asks (n .rebuilt .result .setting) (again (else-1 e)) (first s) (second s) (message s) (s .args .c .now) (out s) (proper e)
+
+same-length-9 : tie.Need-same-length-9
+same-length-9 c = search needs
+
+same-length-10 : tie.Need-same-length-10
+same-length-10 c = search needs
+
+returns-6 : tie.Need-returns-6
+unfolding verdictOf
+returns-6 c =
     let last = c .before .before .before .before .before .before in
-    let f = last .before .before in
-    let e = f .before .before in
+    let f = else-4 last in
+    let w = else-3 f in
+    let e = else-2 w in
     let n = new-at e in
     let s = start n in
     let folded = c .before .before .before .fold-instance .ensures in
-    yes-answer (n .rebuilt .result .setting) (again (else-1 e)) (first s) (second s) (message s) (s .args .c .now) (out s) (proper e) (first-passed f) (second-is (last .before) ∙ not-false _ (last .if4 .left)) _ _ (folded .0) (folded .1)
+    yes-answer (n .rebuilt .result .setting) (again (else-1 e)) (first s) (second s) (message s) (s .args .c .now) (out s) (proper e) (diagonals-passed w) (first-passed f) (second-passed last) _ _ (folded .0) (folded .1)
     ∙ answers e
 
 pub verify-spec : {M : Type 1} → statement M
@@ -202,15 +253,19 @@ verify-spec =
     same-length
     same-length-2
     returns-2
-    norm-holds-requires
+    diagonals-hold-requires
     same-length-3
     same-length-4
     returns-3
-    commitment-holds-requires
+    norm-holds-requires
     same-length-5
     same-length-6
     returns-4
-    fold-instance-requires
+    commitment-holds-requires
     same-length-7
     same-length-8
-    returns-5)
+    returns-5
+    fold-instance-requires
+    same-length-9
+    same-length-10
+    returns-6)

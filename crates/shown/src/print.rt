@@ -1,22 +1,22 @@
 // How numbers and rows of them are written.
 use libc::STDOUT_FILENO;
 
-pub(crate) fn text(bytes: &[u8]) {
+pub fn text(bytes: &[u8]) {
     io::write_all(STDOUT_FILENO, bytes);
 }
 
 // Ends a line.
-pub(crate) fn end() {
+pub fn end() {
     text(b"\n");
 }
 
 // A label, and a number after it.
-pub(crate) fn number(label: &[u8], n: u64) {
+pub fn number(label: &[u8], n: u64) {
     text(label);
     io::print_decimal(STDOUT_FILENO, n);
 }
 
-pub(crate) fn signed(label: &[u8], x: i64) {
+pub fn signed(label: &[u8], x: i64) {
     text(label);
     if x < 0 {
         text(b"-");
@@ -25,12 +25,12 @@ pub(crate) fn signed(label: &[u8], x: i64) {
 }
 
 // One more number of a list.
-pub(crate) fn next(n: u64) {
+pub fn next(n: u64) {
     number(b", ", n);
 }
 
 // A label, and the entries of a matrix after it, by rows.
-pub(crate) fn words(label: &[u8], entries: &[u64]) {
+pub fn words(label: &[u8], entries: &[u64]) {
     text(label);
     let mut i: usize = 0;
     while i < entries.len() {
@@ -39,7 +39,7 @@ pub(crate) fn words(label: &[u8], entries: &[u64]) {
     }
 }
 
-pub(crate) fn whole(label: &[u8], entries: &[i64]) {
+pub fn whole(label: &[u8], entries: &[i64]) {
     text(label);
     let mut i: usize = 0;
     while i < entries.len() {

@@ -13,7 +13,7 @@ fn instance(t: &[u64], d: &[i64]) {
     print::end();
 }
 
-pub(crate) fn digits(x: i64, b: u64, out: &[i64]) {
+pub fn digits(x: i64, b: u64, out: &[i64]) {
     print::number(b"b = ", b);
     print::number(b", k = ", out.len() as u64);
     print::signed(b": ", x);
@@ -21,14 +21,14 @@ pub(crate) fn digits(x: i64, b: u64, out: &[i64]) {
     print::end();
 }
 
-pub(crate) fn commit(setting: Setting, a: &[u64], s: &[i64], t: &mut [u64], d: &mut [i64]) {
+pub fn commit(setting: Setting, a: &[u64], s: &[i64], t: &mut [u64], d: &mut [i64]) {
     print::words(b"commit, A:", a);
     print::whole(b", S:", s);
     answers::answer(commitments::commit(setting, a, s, t, d));
     instance(t, d);
 }
 
-pub(crate) fn message(given: Answer, v: &[i64], tt: &[u64], ss: &[i64]) {
+pub fn message(given: Answer, v: &[i64], tt: &[u64], ss: &[i64]) {
     print::text(b"message");
     answers::answer(given);
     print::whole(b", V:", v);
@@ -37,14 +37,14 @@ pub(crate) fn message(given: Answer, v: &[i64], tt: &[u64], ss: &[i64]) {
     print::end();
 }
 
-pub(crate) fn join(given: Answer, t: &[u64], d: &[i64]) {
+pub fn join(given: Answer, t: &[u64], d: &[i64]) {
     print::text(b"join");
     answers::answer(given);
     instance(t, d);
 }
 
 // The caller writes what is judged, at the start of the line.
-pub(crate) fn verdict(
+pub fn verdict(
     setting: Setting,
     t1: &[u64],
     d1: &[i64],
@@ -61,14 +61,38 @@ pub(crate) fn verdict(
     instance(t, d);
 }
 
-pub(crate) fn folded_witness(setting: Setting, ss: &[i64], c: &[u8], s: &mut [i64]) {
+// The verdict in a setting like the first, with another last entry of D~ (an honest one is 0) and a C of zeros but its
+// last byte.
+pub fn spoiled(
+    setting: Setting,
+    t1: &[u64],
+    d1: &[i64],
+    t2: &[u64],
+    d2: &[i64],
+    v: &[i64],
+    tt: &[u64],
+    mut dd: [i64; 100],
+    last: i64,
+    byte: u8,
+) {
+    print::signed(b"D~ ends in ", last);
+    print::number(b" and C in ", byte as u64);
+    dd[99] = last;
+    let mut c = [0u8; 10];
+    c[9] = byte;
+    let mut t = [111u64; 1];
+    let mut d = [-222i64; 1];
+    verdict(setting, t1, d1, t2, d2, v, tt, &dd, &c, &mut t, &mut d);
+}
+
+pub fn folded_witness(setting: Setting, ss: &[i64], c: &[u8], s: &mut [i64]) {
     print::text(b"folded witness");
     answers::answer(witnesses::fold_witness(setting, ss, c, s));
     print::whole(b", S':", s);
     print::end();
 }
 
-pub(crate) fn relation_test(setting: Setting, a: &[u64], t: &[u64], d: &[i64], s: &[i64]) {
+pub fn relation_test(setting: Setting, a: &[u64], t: &[u64], d: &[i64], s: &[i64]) {
     print::whole(b"relation test, S:", s);
     answers::membership(relations::test_relation(setting, a, t, d, s));
     print::end();

@@ -1,9 +1,9 @@
--- `print::whole` is safe and ends: an entry is written a turn.
+-- `print::words` is safe and ends: an entry is written a turn.
 use Prim.Native.Nat.{_≤_, _-_}
 use lib.ListN.{length}
 use borrow.Author.Needs.{needs}
-use Rattle.points.proofs.print.whole.Statement.{statement}
-use Rattle.points.proofs.print.whole.Tie as tie
+use Rattle.shown.proofs.print.words.Statement.{statement}
+use Rattle.shown.proofs.print.words.Tie as tie
 
 abbrev Inv-loop : tie.InvT-loop
 Inv-loop label entries i₀ t4 i = i ≤ length entries
@@ -17,17 +17,17 @@ text-requires c κs = search needs
 loop-holds : tie.Need-loop-holds Inv-loop μ-loop
 loop-holds c = search needs
 
-slice-aggregate-signed : tie.Need-slice-aggregate-signed Inv-loop μ-loop
-slice-aggregate-signed c = search needs
+slice-aggregate-number : tie.Need-slice-aggregate-number Inv-loop μ-loop
+slice-aggregate-number c = search needs
 
-mul-signed : tie.Need-mul-signed Inv-loop μ-loop
-mul-signed c = search needs
+mul-number : tie.Need-mul-number Inv-loop μ-loop
+mul-number c = search needs
 
-shared-slice-copy-out-signed : tie.Need-shared-slice-copy-out-signed Inv-loop μ-loop
-shared-slice-copy-out-signed c = search needs
+shared-slice-read-number : tie.Need-shared-slice-read-number Inv-loop μ-loop
+shared-slice-read-number c = search needs
 
-signed-requires : tie.Need-signed-requires Inv-loop μ-loop
-signed-requires c κs = search needs
+number-requires : tie.Need-number-requires Inv-loop μ-loop
+number-requires c κs = search needs
 
 add-i : tie.Need-add-i Inv-loop μ-loop
 add-i c = search needs
@@ -41,18 +41,18 @@ loop-again c = search needs
 returns : tie.Need-returns Inv-loop μ-loop
 returns c = search needs
 
-pub whole-spec : {M : Type 1} → statement M
-whole-spec =
+pub words-spec : {M : Type 1} → statement M
+words-spec =
     tie.close
     (tie.spec
     Inv-loop
     μ-loop
     text-requires
     loop-holds
-    slice-aggregate-signed
-    mul-signed
-    shared-slice-copy-out-signed
-    signed-requires
+    slice-aggregate-number
+    mul-number
+    shared-slice-read-number
+    number-requires
     add-i
     loop-less
     loop-again

@@ -7,7 +7,7 @@ use settings::Checked;
 use settings::Setting;
 
 // The five numbers of a setting.
-pub(crate) fn five(n: usize, m: usize, t: usize, b: u64, bound: u64) {
+pub fn five(n: usize, m: usize, t: usize, b: u64, bound: u64) {
     print::number(b"Setting (", n as u64);
     print::next(m as u64);
     print::next(t as u64);
@@ -21,7 +21,7 @@ fn refused(number: u8) {
 }
 
 // The answer of the constructor or of the house list, which ends its line.
-pub(crate) fn checked(given: Checked) {
+pub fn checked(given: Checked) {
     if given.refusal != 0 {
         refused(given.refusal);
     } else {
@@ -32,29 +32,30 @@ pub(crate) fn checked(given: Checked) {
 }
 
 // Asks for a setting: the five numbers and the answer.
-pub(crate) fn asked(n: usize, m: usize, t: usize, b: u64, bound: u64) {
+pub fn asked(n: usize, m: usize, t: usize, b: u64, bound: u64) {
     five(n, m, t, b, bound);
     checked(Setting::new(n, m, t, b, bound));
 }
 
 // The answer of commit, join, message or folded witness.
-pub(crate) fn answer(given: Answer) {
+pub fn answer(given: Answer) {
     match given {
         Answer::Done => print::text(b": done"),
         Answer::Refused(r) => refused(r),
     }
 }
 
-pub(crate) fn verdict(given: Verdict) {
+pub fn verdict(given: Verdict) {
     match given {
         Verdict::Yes => print::text(b": yes"),
+        Verdict::Long => print::text(b": long"),
         Verdict::Norm => print::text(b": norm"),
         Verdict::Commitment => print::text(b": commitment"),
         Verdict::Refused(r) => refused(r),
     }
 }
 
-pub(crate) fn membership(given: Membership) {
+pub fn membership(given: Membership) {
     match given {
         Membership::Member => print::text(b": member"),
         Membership::Long => print::text(b": long"),

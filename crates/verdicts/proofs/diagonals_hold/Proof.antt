@@ -1,0 +1,26 @@
+-- `verdicts::diagonals_hold` meets its contract: the diagonal of d1, and where it is within B that of d2.
+use borrow.Author.Needs.{needs}
+use borrow.Author.Tests.{not-true, not-false}
+use mathlib.Core.Path.{refl}
+use Rattle.lova.specs.Tests.{diagonalWithin}
+use Rattle.verdicts.proofs.diagonals_hold.Statement.{statement}
+use Rattle.verdicts.proofs.diagonals_hold.Tie as tie
+
+diagonal-within-requires : tie.Need-diagonal-within-requires
+diagonal-within-requires c κs = search needs
+
+returns : tie.Need-returns
+unfolding diagonalWithin
+returns c = rw (← c .before .diagonal-within .ensures, not-true (c .before .diagonal-within .result) (c .if1 .taken)) refl
+
+diagonal-within-requires-2 : tie.Need-diagonal-within-requires-2
+diagonal-within-requires-2 c κs = search needs
+
+returns-2 : tie.Need-returns-2
+unfolding diagonalWithin
+returns-2 c =
+    let one = c .before .before .diagonal-within in
+    rw (← one .ensures, not-false (one .result) (c .before .if1 .left), ← c .diagonal-within2 .ensures) refl
+
+pub diagonals-hold-spec : {M : Type 1} → statement M
+diagonals-hold-spec = tie.close (tie.spec diagonal-within-requires returns diagonal-within-requires-2 returns-2)
