@@ -16,7 +16,7 @@ static int64_t s1[4096 * 16], s2[4096 * 16], s[4096 * 16], ss[4096 * 512], dd[51
 static int64_t d1[16 * 16], d2[16 * 16], v[16 * 16], d_out[16 * 16], joined_d[32 * 32];
 static uint8_t c[512 * 16];
 
-static uint64_t n, m, t, b, bound, columns;
+static uint64_t n, m, t, b, bound, columns, fresh_columns;
 static uint8_t code;
 
 static void setting(void) { code = lova_setting(n, m, t, b, bound, out, 35); }
@@ -51,6 +51,36 @@ static void test_relation(void)
     code = lova_test_relation(n, m, t, b, bound, a, n * m, t_out, n * t, d_out, t * t, s, m * t);
 }
 
+/* The fresh calls; the first m entries of S2 are the vector. */
+static void commit_fresh(void)
+{
+    code = lova_commit_fresh(n, m, t, b, bound, a, n * m, s2, m, t2, n, d2, 1);
+}
+
+static void message_fresh(void)
+{
+    code = lova_message_fresh(n, m, t, b, bound, a, n * m, s1, m * t, s2, m, v, t, tt, n * fresh_columns,
+                              dd, fresh_columns * fresh_columns, ss, m * fresh_columns);
+}
+
+static void fold_witness_fresh(void)
+{
+    code = lova_fold_witness_fresh(n, m, t, b, bound, ss, m * fresh_columns, c, columns * t, s, m * t);
+}
+
+static void join_fresh(void)
+{
+    code = lova_join_fresh(n, m, t, b, bound, t1, n * t, d1, t * t, t2, n, d2, 1, v, t,
+                           joined_t, 2 * n * t, joined_d, 4 * t * t);
+}
+
+static void verify_fresh(void)
+{
+    code = lova_verify_fresh(n, m, t, b, bound, t1, n * t, d1, t * t, t2, n, d2, 1, v, t,
+                             tt, n * fresh_columns, dd, fresh_columns * fresh_columns, c, columns * t,
+                             t_out, n * t, d_out, t * t);
+}
+
 /* The calls in an order in which each finds what it reads, and what the header says of them. */
 static const struct {
     const char *name;
@@ -65,6 +95,11 @@ static const struct {
     {"join", join, LOVA_JOIN_STACK},
     {"verify", verify, LOVA_VERIFY_STACK},
     {"test_relation", test_relation, LOVA_TEST_RELATION_STACK},
+    {"commit_fresh", commit_fresh, LOVA_COMMIT_FRESH_STACK},
+    {"message_fresh", message_fresh, LOVA_MESSAGE_FRESH_STACK},
+    {"fold_witness_fresh", fold_witness_fresh, LOVA_FOLD_WITNESS_FRESH_STACK},
+    {"join_fresh", join_fresh, LOVA_JOIN_FRESH_STACK},
+    {"verify_fresh", verify_fresh, LOVA_VERIFY_FRESH_STACK},
 };
 
 /* How many bytes of a fresh stack a call changes, from its top down. */
@@ -91,6 +126,7 @@ static void fill(const uint64_t p[5])
     n = p[0], m = p[1], t = p[2], b = p[3], bound = p[4];
     lova_setting(n, m, t, b, bound, out, 35);
     columns = out[1];
+    fresh_columns = out[0] * (t + 1);
     for (size_t i = 0; i < n * m; i++)
         a[i] = i * 0x9E3779B97F4A7C15;
     for (size_t i = 0; i < m * t; i++) {

@@ -6,6 +6,14 @@
  *   A  n m      S  m t      T  n t      D  t t      V  t t      C  N t
  *   S~ m N      T~ n N      D~ N N      joined T  n 2t          joined D  2t 2t
  *
+ * The second witness of a fold may be fresh: one vector that stands for t equal columns. For it there are the functions
+ * with _fresh, in which these lengths differ:
+ *
+ *   vector  m   its T  n    its D  1    V  t        S~ m (kt + k)       T~ n (kt + k)       D~ (kt + k) (kt + k)
+ *
+ * They answer as the functions without _fresh do when all that is fresh is repeated t times, and so repeated, what they
+ * write is what those write.
+ *
  * h is b/2 rounded down, and H is h^2 m.
  *
  * Each function returns a code of `enum lova_code`. Of the refusals 1 to 12 the first that applies is given, in the order
@@ -61,6 +69,11 @@ enum lova_stack {
     LOVA_JOIN_STACK = 4096,
     LOVA_VERIFY_STACK = 24576,
     LOVA_TEST_RELATION_STACK = 12288,
+    LOVA_COMMIT_FRESH_STACK = 4096,
+    LOVA_MESSAGE_FRESH_STACK = 36864,
+    LOVA_FOLD_WITNESS_FRESH_STACK = 20480,
+    LOVA_JOIN_FRESH_STACK = 4096,
+    LOVA_VERIFY_FRESH_STACK = 24576,
     LOVA_SETTING_STACK = 4096,
     LOVA_LISTED_STACK = 4096
 };
@@ -103,6 +116,38 @@ uint8_t lova_verify(uint64_t n, uint64_t m, uint64_t t, uint64_t b, uint64_t bou
 uint8_t lova_test_relation(uint64_t n, uint64_t m, uint64_t t, uint64_t b, uint64_t bound,
                            const uint64_t *a, size_t a_len, const uint64_t *t_in, size_t t_in_len,
                            const int64_t *d_in, size_t d_in_len, const int64_t *s, size_t s_len);
+
+/* T and D of a fresh witness. Refusals 1 to 6, 7, 8. */
+uint8_t lova_commit_fresh(uint64_t n, uint64_t m, uint64_t t, uint64_t b, uint64_t bound,
+                          const uint64_t *a, size_t a_len, const int64_t *vector, size_t vector_len,
+                          uint64_t *t_out, size_t t_out_len, int64_t *d_out, size_t d_out_len);
+
+/* V, T~, D~ and S~ of the witness S1 and a fresh one; its digits are the last k columns of S~. Refusals 1 to 6, 7, 8. */
+uint8_t lova_message_fresh(uint64_t n, uint64_t m, uint64_t t, uint64_t b, uint64_t bound,
+                           const uint64_t *a, size_t a_len, const int64_t *s1, size_t s1_len,
+                           const int64_t *vector, size_t vector_len,
+                           int64_t *v, size_t v_len, uint64_t *tt, size_t tt_len, int64_t *dd, size_t dd_len,
+                           int64_t *ss, size_t ss_len);
+
+/* The folded witness S' of a fresh S~ and C, which is N by t. Refusals 1 to 6, 7, 9, 11. */
+uint8_t lova_fold_witness_fresh(uint64_t n, uint64_t m, uint64_t t, uint64_t b, uint64_t bound,
+                                const int64_t *ss, size_t ss_len, const uint8_t *c, size_t c_len,
+                                int64_t *s, size_t s_len);
+
+/* The joined T, n by 2t, and D, 2t by 2t, of an instance and a fresh one. Refusals 1 to 6, 7. */
+uint8_t lova_join_fresh(uint64_t n, uint64_t m, uint64_t t, uint64_t b, uint64_t bound,
+                        const uint64_t *t1, size_t t1_len, const int64_t *d1, size_t d1_len,
+                        const uint64_t *t2, size_t t2_len, const int64_t *d2, size_t d2_len,
+                        const int64_t *v, size_t v_len,
+                        uint64_t *t_out, size_t t_out_len, int64_t *d_out, size_t d_out_len);
+
+/* The verdict on a fold with a fresh instance, as lova_verify gives it; C is N by t. Refusals 1 to 6, 7, 9, 10. */
+uint8_t lova_verify_fresh(uint64_t n, uint64_t m, uint64_t t, uint64_t b, uint64_t bound,
+                          const uint64_t *t1, size_t t1_len, const int64_t *d1, size_t d1_len,
+                          const uint64_t *t2, size_t t2_len, const int64_t *d2, size_t d2_len,
+                          const int64_t *v, size_t v_len, const uint64_t *tt, size_t tt_len,
+                          const int64_t *dd, size_t dd_len, const uint8_t *c, size_t c_len,
+                          uint64_t *t_out, size_t t_out_len, int64_t *d_out, size_t d_out_len);
 
 /* The setting of five numbers: writes k, N and the 33 powers of b (b^p for p < k, then 0), 35 places. Refusals 1 to 6, 7. */
 uint8_t lova_setting(uint64_t n, uint64_t m, uint64_t t, uint64_t b, uint64_t bound, uint64_t *out, size_t out_len);

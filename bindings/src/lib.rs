@@ -4,6 +4,11 @@
 //! other than yes, leaves every output as it was. The lengths are those of the specification:
 //! A is n by m, T n by t, S m by t, D and V t by t, S~ m by N, T~ n by N, D~ N by N, C N by t.
 //!
+//! A fold's second witness may be fresh: one vector that stands for t equal columns. The functions for it have
+//! `_fresh` in their names and answer as the general ones do when all that is fresh is repeated t times. The vector
+//! has m entries, its T n and its D one; V has t, S~ m (kt + k), T~ n (kt + k), D~ (kt + k) (kt + k). All other
+//! lengths are as above. At t = 1 both forms are the same.
+//!
 //! Build the archive with `bindings/archive`; `LOVA_STATICLIB` names another folder for it. The enums may
 //! get cases later, so a `match` outside this crate needs an arm `_`.
 //!
@@ -26,22 +31,20 @@ pub use answers::{Answer, Membership, Refusal, Verdict};
 pub use setting::{write_listed, write_record, Record, Setting, POWERS, RECORD};
 
 use answers::{answer, membership, verdict};
-
-// SAFETY of every call below: each pointer has the length of its slice, and a slice is lent for
-// the call alone, an output exclusively.
+use raw::call;
 
 /// Commit to a witness: A, S to T = A S modulo 2^64 and D = S-transposed S.
 ///
 /// Refusals: 1 to 6, 7, 8.
 pub fn commit(setting: Setting, a: &[u64], s: &[i64], t_out: &mut [u64], d_out: &mut [i64]) -> Answer {
-    let Setting { n, m, t, b, bound } = setting;
-    answer(unsafe {
-        raw::lova_commit(
-            n, m, t, b, bound,
-            a.as_ptr(), a.len(), s.as_ptr(), s.len(),
-            t_out.as_mut_ptr(), t_out.len(), d_out.as_mut_ptr(), d_out.len(),
-        )
-    })
+    answer(call!(raw::lova_commit, setting.five(), [a, s], [t_out, d_out]))
+}
+
+/// [`commit`] to a fresh witness: A and the vector to T, n words, and D, one number.
+///
+/// Refusals: 1 to 6, 7, 8.
+pub fn commit_fresh(setting: Setting, a: &[u64], vector: &[i64], t_out: &mut [u64], d_out: &mut [i64]) -> Answer {
+    answer(call!(raw::lova_commit_fresh, setting.five(), [a, vector], [t_out, d_out]))
 }
 
 /// The prover's message: A, S1, S2 to V = S1-transposed S2, T~ = A S~ modulo 2^64,
@@ -52,28 +55,31 @@ pub fn message(
     setting: Setting, a: &[u64], s1: &[i64], s2: &[i64],
     v_out: &mut [i64], tt_out: &mut [u64], dd_out: &mut [i64], ss_out: &mut [i64],
 ) -> Answer {
-    let Setting { n, m, t, b, bound } = setting;
-    answer(unsafe {
-        raw::lova_message(
-            n, m, t, b, bound,
-            a.as_ptr(), a.len(), s1.as_ptr(), s1.len(), s2.as_ptr(), s2.len(),
-            v_out.as_mut_ptr(), v_out.len(), tt_out.as_mut_ptr(), tt_out.len(),
-            dd_out.as_mut_ptr(), dd_out.len(), ss_out.as_mut_ptr(), ss_out.len(),
-        )
-    })
+    answer(call!(raw::lova_message, setting.five(), [a, s1, s2], [v_out, tt_out, dd_out, ss_out]))
+}
+
+/// The [`message`] of S1 and a fresh witness. The digits of the vector are the last k columns of S~.
+///
+/// Refusals: 1 to 6, 7, 8, for S1 or the vector.
+pub fn message_fresh(
+    setting: Setting, a: &[u64], s1: &[i64], vector: &[i64],
+    v_out: &mut [i64], tt_out: &mut [u64], dd_out: &mut [i64], ss_out: &mut [i64],
+) -> Answer {
+    answer(call!(raw::lova_message_fresh, setting.five(), [a, s1, vector], [v_out, tt_out, dd_out, ss_out]))
 }
 
 /// The folded witness: S~, C to S' = S~ C. A byte of C is 0 for 0, 1 for 1 and 2 for −1.
 ///
 /// Refusals: 1 to 6, 7, 9, 11.
 pub fn fold_witness(setting: Setting, ss: &[i64], c: &[u8], s_out: &mut [i64]) -> Answer {
-    let Setting { n, m, t, b, bound } = setting;
-    answer(unsafe {
-        raw::lova_fold_witness(
-            n, m, t, b, bound,
-            ss.as_ptr(), ss.len(), c.as_ptr(), c.len(), s_out.as_mut_ptr(), s_out.len(),
-        )
-    })
+    answer(call!(raw::lova_fold_witness, setting.five(), [ss, c], [s_out]))
+}
+
+/// [`fold_witness`] with the S~ of [`message_fresh`]; C and S' are those of the general fold.
+///
+/// Refusals: 1 to 6, 7, 9, 11.
+pub fn fold_witness_fresh(setting: Setting, ss: &[i64], c: &[u8], s_out: &mut [i64]) -> Answer {
+    answer(call!(raw::lova_fold_witness_fresh, setting.five(), [ss, c], [s_out]))
 }
 
 /// Join two instances: T1, D1, T2, D2, V to T = [T1 T2], n by 2t, and D = [D1 V; V-transposed D2], 2t by 2t.
@@ -83,14 +89,17 @@ pub fn join(
     setting: Setting, t1: &[u64], d1: &[i64], t2: &[u64], d2: &[i64], v: &[i64],
     t_out: &mut [u64], d_out: &mut [i64],
 ) -> Answer {
-    let Setting { n, m, t, b, bound } = setting;
-    answer(unsafe {
-        raw::lova_join(
-            n, m, t, b, bound,
-            t1.as_ptr(), t1.len(), d1.as_ptr(), d1.len(), t2.as_ptr(), t2.len(), d2.as_ptr(), d2.len(),
-            v.as_ptr(), v.len(), t_out.as_mut_ptr(), t_out.len(), d_out.as_mut_ptr(), d_out.len(),
-        )
-    })
+    answer(call!(raw::lova_join, setting.five(), [t1, d1, t2, d2, v], [t_out, d_out]))
+}
+
+/// [`join`] with a fresh instance, T2 and D2; the joined T and D are those of the general fold.
+///
+/// Refusals: 1 to 6, 7.
+pub fn join_fresh(
+    setting: Setting, t1: &[u64], d1: &[i64], t2: &[u64], d2: &[i64], v: &[i64],
+    t_out: &mut [u64], d_out: &mut [i64],
+) -> Answer {
+    answer(call!(raw::lova_join_fresh, setting.five(), [t1, d1, t2, d2, v], [t_out, d_out]))
 }
 
 /// The verdict on a message: both instances, V, T~, D~ and C to T' = T~ C modulo 2^64 and
@@ -102,15 +111,17 @@ pub fn verify(
     setting: Setting, t1: &[u64], d1: &[i64], t2: &[u64], d2: &[i64], v: &[i64],
     tt: &[u64], dd: &[i64], c: &[u8], t_out: &mut [u64], d_out: &mut [i64],
 ) -> Result<Verdict, Refusal> {
-    let Setting { n, m, t, b, bound } = setting;
-    verdict(unsafe {
-        raw::lova_verify(
-            n, m, t, b, bound,
-            t1.as_ptr(), t1.len(), d1.as_ptr(), d1.len(), t2.as_ptr(), t2.len(), d2.as_ptr(), d2.len(),
-            v.as_ptr(), v.len(), tt.as_ptr(), tt.len(), dd.as_ptr(), dd.len(), c.as_ptr(), c.len(),
-            t_out.as_mut_ptr(), t_out.len(), d_out.as_mut_ptr(), d_out.len(),
-        )
-    })
+    verdict(call!(raw::lova_verify, setting.five(), [t1, d1, t2, d2, v, tt, dd, c], [t_out, d_out]))
+}
+
+/// The verdict, as [`verify`] gives it, on a message of [`message_fresh`]; C, T' and D' are those of the general fold.
+///
+/// Refusals: 1 to 6, 7, 9, 10.
+pub fn verify_fresh(
+    setting: Setting, t1: &[u64], d1: &[i64], t2: &[u64], d2: &[i64], v: &[i64],
+    tt: &[u64], dd: &[i64], c: &[u8], t_out: &mut [u64], d_out: &mut [i64],
+) -> Result<Verdict, Refusal> {
+    verdict(call!(raw::lova_verify_fresh, setting.five(), [t1, d1, t2, d2, v, tt, dd, c], [t_out, d_out]))
 }
 
 /// The relation test: does the witness S belong to the instance T, D?
@@ -119,11 +130,5 @@ pub fn verify(
 pub fn test_relation(
     setting: Setting, a: &[u64], t_in: &[u64], d_in: &[i64], s: &[i64],
 ) -> Result<Membership, Refusal> {
-    let Setting { n, m, t, b, bound } = setting;
-    membership(unsafe {
-        raw::lova_test_relation(
-            n, m, t, b, bound,
-            a.as_ptr(), a.len(), t_in.as_ptr(), t_in.len(), d_in.as_ptr(), d_in.len(), s.as_ptr(), s.len(),
-        )
-    })
+    membership(call!(raw::lova_test_relation, setting.five(), [a, t_in, d_in, s], []))
 }

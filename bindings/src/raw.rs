@@ -1,7 +1,24 @@
-//! The functions of the static library as C sees them.
+//! The functions of the static library as C sees them, and how they are called.
 //!
 //! The five numbers of a setting come first; each slice is a pointer and a length. Every
 //! function answers 0, a refusal from 1 to 12, or one of the words from 100 on.
+
+/// The code of a C function for the five numbers of a setting, the slices that it reads and those that it writes.
+macro_rules! call {
+    ($function:path, $five:expr, [$($read:ident),*], [$($written:ident),*]) => {{
+        let [n, m, t, b, bound] = $five;
+        // SAFETY: each pointer has the length of its slice, and a slice is lent for the call alone,
+        // an output exclusively.
+        unsafe {
+            $function(
+                n, m, t, b, bound,
+                $($read.as_ptr(), $read.len(),)*
+                $($written.as_mut_ptr(), $written.len(),)*
+            )
+        }
+    }};
+}
+pub(crate) use call;
 
 extern "C" {
     pub fn lova_commit(
@@ -30,6 +47,39 @@ extern "C" {
     ) -> u8;
 
     pub fn lova_verify(
+        n: u64, m: u64, t: u64, b: u64, bound: u64,
+        t1: *const u64, t1_len: usize, d1: *const i64, d1_len: usize,
+        t2: *const u64, t2_len: usize, d2: *const i64, d2_len: usize, v: *const i64, v_len: usize,
+        tt: *const u64, tt_len: usize, dd: *const i64, dd_len: usize, c: *const u8, c_len: usize,
+        t_out: *mut u64, t_out_len: usize, d_out: *mut i64, d_out_len: usize,
+    ) -> u8;
+
+    pub fn lova_commit_fresh(
+        n: u64, m: u64, t: u64, b: u64, bound: u64,
+        a: *const u64, a_len: usize, vector: *const i64, vector_len: usize,
+        t_out: *mut u64, t_out_len: usize, d_out: *mut i64, d_out_len: usize,
+    ) -> u8;
+
+    pub fn lova_message_fresh(
+        n: u64, m: u64, t: u64, b: u64, bound: u64,
+        a: *const u64, a_len: usize, s1: *const i64, s1_len: usize, vector: *const i64, vector_len: usize,
+        v_out: *mut i64, v_out_len: usize, tt_out: *mut u64, tt_out_len: usize,
+        dd_out: *mut i64, dd_out_len: usize, ss_out: *mut i64, ss_out_len: usize,
+    ) -> u8;
+
+    pub fn lova_fold_witness_fresh(
+        n: u64, m: u64, t: u64, b: u64, bound: u64,
+        ss: *const i64, ss_len: usize, c: *const u8, c_len: usize, s_out: *mut i64, s_out_len: usize,
+    ) -> u8;
+
+    pub fn lova_join_fresh(
+        n: u64, m: u64, t: u64, b: u64, bound: u64,
+        t1: *const u64, t1_len: usize, d1: *const i64, d1_len: usize,
+        t2: *const u64, t2_len: usize, d2: *const i64, d2_len: usize, v: *const i64, v_len: usize,
+        t_out: *mut u64, t_out_len: usize, d_out: *mut i64, d_out_len: usize,
+    ) -> u8;
+
+    pub fn lova_verify_fresh(
         n: u64, m: u64, t: u64, b: u64, bound: u64,
         t1: *const u64, t1_len: usize, d1: *const i64, d1_len: usize,
         t2: *const u64, t2_len: usize, d2: *const i64, d2_len: usize, v: *const i64, v_len: usize,

@@ -1,7 +1,7 @@
 //! A setting by its five numbers, and what follows from them.
 
 use crate::answers::{answer, Answer, Refusal};
-use crate::raw;
+use crate::raw::{self, call};
 
 /// Places for the powers of b.
 pub const POWERS: usize = 33;
@@ -55,6 +55,11 @@ impl Setting {
         Ok(Setting { n, m, t, b, bound })
     }
 
+    /// n, m, t, b and B.
+    pub(crate) fn five(self) -> [u64; 5] {
+        [self.n, self.m, self.t, self.b, self.bound]
+    }
+
     /// The record of an accepted setting.
     pub fn record(self) -> Result<Record, Refusal> {
         let mut places = [0; RECORD];
@@ -66,9 +71,7 @@ impl Setting {
 
 /// Write a setting's record, k, N and the powers of b, to a slice of [`RECORD`] places: 1 to 6, then 7.
 pub fn write_record(setting: Setting, record: &mut [u64]) -> Answer {
-    let Setting { n, m, t, b, bound } = setting;
-    // SAFETY: the pointer has the length of its slice, which is lent for the call alone.
-    answer(unsafe { raw::lova_setting(n, m, t, b, bound, record.as_mut_ptr(), record.len()) })
+    answer(call!(raw::lova_setting, setting.five(), [], [record]))
 }
 
 /// Write n, m, t, b and B of a row of the house list to a slice of 5 places: 12, then 7.

@@ -107,3 +107,72 @@ fn joined_and_related() {
     assert_eq!(related(22, 50, 7), Ok(Membership::Products));
     assert_eq!(related(22, 50, 11), Ok(Membership::Long));
 }
+
+/// n = m = 1, t = 2, b = 5: k = 3 and N = 12, so that a fresh S~ has 9 columns.
+const TWO: Setting = Setting::unchecked(1, 1, 2, 5, 576);
+
+/// The challenge of the fresh fold: 12 rows of two.
+const FRESH_C: [u8; 24] = [1, 0, 0, 1, 0, 0, 0, 0, 2, 1, 0, 2, 1, 0, 0, 1, 1, 1, 1, 2, 0, 1, 2, 0];
+
+/// The outputs of a fresh message, all at this number.
+fn fresh_message(held: i64) -> ([i64; 2], [u64; 9], [i64; 81], [i64; 9]) {
+    ([held; 2], [held as u64; 9], [held; 81], [held; 9])
+}
+
+#[test]
+fn a_fresh_fold() {
+    let (mut t1, mut d1, mut t2, mut d2) = ([8; 2], [8; 4], [8], [8]);
+    assert_eq!(lova::commit(TWO, &[3], &[7, -5], &mut t1, &mut d1), Ok(()));
+    assert_eq!(lova::commit_fresh(TWO, &[3], &[4], &mut t2, &mut d2), Ok(()));
+    assert_eq!((t2, d2), ([12], [16]));
+    let (mut v, mut tt, mut dd, mut ss) = fresh_message(8);
+    assert_eq!(lova::message_fresh(TWO, &[3], &[7, -5], &[4], &mut v, &mut tt, &mut dd, &mut ss), Ok(()));
+    assert_eq!((v, ss), ([28, -20], [2, 1, 0, 0, -1, 0, -1, 1, 0]));
+    let (mut t, mut d) = ([8; 4], [8; 16]);
+    assert_eq!(lova::join_fresh(TWO, &t1, &d1, &t2, &d2, &v, &mut t, &mut d), Ok(()));
+    assert_eq!(t, [21, 15u64.wrapping_neg(), 12, 12]);
+    assert_eq!(d, [49, -35, 28, 28, -35, 25, -20, -20, 28, -20, 16, 16, 28, -20, 16, 16]);
+    let (mut t, mut d, mut s) = ([8; 2], [8; 4], [8; 2]);
+    let verdict = lova::verify_fresh(TWO, &t1, &d1, &t2, &d2, &v, &tt, &dd, &FRESH_C, &mut t, &mut d);
+    assert_eq!((verdict, t, d), (Ok(Verdict::Yes), [3, 9], [1, 3, 3, 9]));
+    assert_eq!(lova::fold_witness_fresh(TWO, &ss, &FRESH_C, &mut s), Ok(()));
+    assert_eq!(s, [1, 3]);
+    assert_eq!(lova::test_relation(TWO, &[3], &t, &d, &s), Ok(Membership::Member));
+}
+
+#[test]
+fn fresh_calls_are_refused() {
+    let (mut t, mut d) = ([8], [8]);
+    assert_eq!(lova::commit_fresh(TWO, &[3], &[25], &mut t, &mut d), Err(Refusal::LongColumn));
+    assert_eq!(lova::commit_fresh(TWO, &[3], &[4, 4], &mut t, &mut d), Err(Refusal::Length));
+    assert_eq!((t, d), ([8], [8]));
+    let (mut v, mut tt, mut dd, mut ss) = fresh_message(8);
+    let answer = lova::message_fresh(TWO, &[3], &[0, 0], &[25], &mut v, &mut tt, &mut dd, &mut ss);
+    assert_eq!((answer, (v, tt, dd, ss)), (Err(Refusal::LongColumn), fresh_message(8)));
+    let (mut t, mut d) = ([8; 4], [8; 16]);
+    let joined = lova::join_fresh(TWO, &[1; 2], &[2; 4], &[3; 2], &[4], &[5; 2], &mut t, &mut d);
+    assert_eq!((joined, t, d), (Err(Refusal::Length), [8; 4], [8; 16]));
+    let mut s = [8; 2];
+    assert_eq!(lova::fold_witness_fresh(TWO, &[3; 9], &FRESH_C, &mut s), Err(Refusal::Digit));
+    assert_eq!(lova::fold_witness_fresh(TWO, &[3; 9], &[3; 24], &mut s), Err(Refusal::Challenge));
+    assert_eq!(lova::fold_witness_fresh(TWO, &[3; 12], &FRESH_C, &mut s), Err(Refusal::Length));
+    assert_eq!(s, [8; 2]);
+}
+
+/// The verdict on a fresh fold of zeros with another D2, D~ and C, and T' and D' afterwards; both held 8 before.
+fn judged_fresh(d2: i64, dd: i64, c: u8) -> (Result<Verdict, Refusal>, [u64; 2], [i64; 4]) {
+    let (mut t, mut d) = ([8; 2], [8; 4]);
+    let (zeros, dd, c) = ([0; 9], [dd; 81], [c; 24]);
+    let verdict = lova::verify_fresh(TWO, &[0; 2], &[0; 4], &[0], &[d2], &[0; 2], &zeros, &dd, &c, &mut t, &mut d);
+    (verdict, t, d)
+}
+
+#[test]
+fn fresh_verdicts_in_order() {
+    assert_eq!(judged_fresh(0, 0, 1), (Ok(Verdict::Yes), [0; 2], [0; 4]));
+    let (t, d) = ([8; 2], [8; 4]);
+    assert_eq!(judged_fresh(576, 0, 1), (Ok(Verdict::Norm), t, d));
+    assert_eq!(judged_fresh(577, 0, 1), (Ok(Verdict::Long), t, d));
+    assert_eq!(judged_fresh(577, 5, 1), (Err(Refusal::DigitProduct), t, d));
+    assert_eq!(judged_fresh(577, -5, 3), (Err(Refusal::Challenge), t, d));
+}

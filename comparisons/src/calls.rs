@@ -1,34 +1,40 @@
 //! Calls of the operations, made by the static library and by the reference.
 
+use crate::library;
 use crate::seed::seed;
 use lova::{Membership, Refusal, Setting, Verdict};
-use reference::operations::{self, Answer};
+use reference::operations::{self, Answer, Profile};
 use reference::settings::Parameters;
 use std::fmt::Display;
 use Matrix::*;
+use Profile::{Fresh, General};
 use Slice::*;
 
 /// Places before and after each output that no call may touch.
 pub const GUARD: usize = 5;
 
-/// The operations.
+/// The operations, those of a fold in a profile.
 #[derive(Clone, Copy, Debug, PartialEq, Eq)]
 pub enum Operation {
-    Commit,
-    Message,
-    FoldWitness,
-    Join,
-    Verify,
+    Commit(Profile),
+    Message(Profile),
+    FoldWitness(Profile),
+    Join(Profile),
+    Verify(Profile),
     TestRelation,
 }
 
-/// What a slice stands for.
+/// What a slice stands for; those that begin with `Right` are of the second witness, which may be fresh.
 #[derive(Clone, Copy, Debug, PartialEq, Eq)]
 pub enum Matrix {
     A,
     S,
     T,
     D,
+    RightS,
+    RightT,
+    RightD,
+    V,
     DigitT,
     DigitD,
     DigitS,
@@ -46,36 +52,59 @@ pub enum Slice {
 }
 
 impl Operation {
-    /// All operations.
-    pub const ALL: [Operation; 6] = [
-        Operation::Commit,
-        Operation::Message,
-        Operation::FoldWitness,
-        Operation::Join,
-        Operation::Verify,
+    /// All operations in all profiles.
+    pub const ALL: [Operation; 11] = [
+        Operation::Commit(General),
+        Operation::Message(General),
+        Operation::FoldWitness(General),
+        Operation::Join(General),
+        Operation::Verify(General),
         Operation::TestRelation,
+        Operation::Commit(Fresh),
+        Operation::Message(Fresh),
+        Operation::FoldWitness(Fresh),
+        Operation::Join(Fresh),
+        Operation::Verify(Fresh),
     ];
 
-    /// The work at an accepted setting, in products of two entries; that of making the inputs is in it.
-    pub fn work(self, p: &Parameters) -> u128 {
-        let (n, m, t, columns) = (p.n as u128, p.m as u128, p.t as u128, p.columns());
+    /// The name, which ends in `Fresh` for that profile.
+    pub fn name(self) -> String {
+        format!("{self:?}").replace("(General)", "").replace("(Fresh)", "Fresh")
+    }
+
+    /// The profile.
+    pub fn profile(self) -> Profile {
         match self {
-            Operation::Commit | Operation::TestRelation => (n + t) * m * t,
-            Operation::Join => (n + t) * t,
-            Operation::FoldWitness => m * columns * t,
-            Operation::Message => (n + columns) * m * columns,
-            Operation::Verify => (n + columns) * (m + 3 * t) * columns,
+            Operation::Commit(profile)
+            | Operation::Message(profile)
+            | Operation::FoldWitness(profile)
+            | Operation::Join(profile)
+            | Operation::Verify(profile) => profile,
+            Operation::TestRelation => General,
         }
     }
 
-    /// The matrices that are read, in order; V has the shape of D.
+    /// The work at an accepted setting, in products of two entries; that of making the inputs is in it. The reference
+    /// works in the general form.
+    pub fn work(self, p: &Parameters) -> u128 {
+        let (n, m, t, columns) = (p.n as u128, p.m as u128, p.t as u128, p.columns());
+        match self {
+            Operation::Commit(_) | Operation::TestRelation => (n + t) * m * t,
+            Operation::Join(_) => (n + t) * t,
+            Operation::FoldWitness(_) => m * columns * t,
+            Operation::Message(_) => (n + columns) * m * columns,
+            Operation::Verify(_) => (n + columns) * (m + 3 * t) * columns,
+        }
+    }
+
+    /// The matrices that are read, in order.
     pub fn reads(self) -> &'static [Matrix] {
         match self {
-            Operation::Commit => &[A, S],
-            Operation::Message => &[A, S, S],
-            Operation::FoldWitness => &[DigitS, C],
-            Operation::Join => &[T, D, T, D, D],
-            Operation::Verify => &[T, D, T, D, D, DigitT, DigitD, C],
+            Operation::Commit(_) => &[A, RightS],
+            Operation::Message(_) => &[A, S, RightS],
+            Operation::FoldWitness(_) => &[DigitS, C],
+            Operation::Join(_) => &[T, D, RightT, RightD, V],
+            Operation::Verify(_) => &[T, D, RightT, RightD, V, DigitT, DigitD, C],
             Operation::TestRelation => &[A, T, D, S],
         }
     }
@@ -83,10 +112,11 @@ impl Operation {
     /// The matrices that are written, in order.
     pub fn writes(self) -> &'static [Matrix] {
         match self {
-            Operation::Commit | Operation::Verify => &[T, D],
-            Operation::Message => &[D, DigitT, DigitD, DigitS],
-            Operation::FoldWitness => &[S],
-            Operation::Join => &[JoinedT, JoinedD],
+            Operation::Commit(_) => &[RightT, RightD],
+            Operation::Verify(_) => &[T, D],
+            Operation::Message(_) => &[V, DigitT, DigitD, DigitS],
+            Operation::FoldWitness(_) => &[S],
+            Operation::Join(_) => &[JoinedT, JoinedD],
             Operation::TestRelation => &[],
         }
     }
@@ -94,17 +124,23 @@ impl Operation {
 
 impl Matrix {
     /// The number of entries at a setting, accepted or not.
-    pub fn length(self, p: &Parameters) -> u128 {
-        let (n, m, t, columns) = (p.n as u128, p.m as u128, p.t as u128, p.columns());
+    pub fn length(self, p: &Parameters, profile: Profile) -> u128 {
+        let (n, m, t, k) = (p.n as u128, p.m as u128, p.t as u128, p.k() as u128);
+        let right = if profile == Fresh { 1 } else { t };
+        let columns = k * t + k * right;
         let (rows, width) = match self {
             A => (n, m),
             S => (m, t),
             T => (n, t),
             D => (t, t),
+            RightS => (m, right),
+            RightT => (n, right),
+            RightD => (right, right),
+            V => (t, right),
             DigitT => (n, columns),
             DigitD => (columns, columns),
             DigitS => (m, columns),
-            C => (columns, t),
+            C => (2 * k * t, t),
             JoinedT => (n, 2 * t),
             JoinedD => (2 * t, 2 * t),
         };
@@ -201,30 +237,30 @@ fn related(membership: Result<Membership, Refusal>) -> Answer {
 
 impl Call {
     /// The answer of the static library, with its outputs in these slices.
-    fn by_library(&self, written: &mut [Slice]) -> Answer {
+    pub fn by_library(&self, written: &mut [Slice]) -> Answer {
         let p = Setting::unchecked(self.p.n, self.p.m, self.p.t, self.p.b, self.p.bound);
         match (self.operation, &self.read[..], written) {
-            (Operation::Commit, [Words(a), Numbers(s)], [Words(t), Numbers(d)]) => {
-                answered(lova::commit(p, a, s, lent(t), lent(d)))
+            (Operation::Commit(profile), [Words(a), Numbers(s)], [Words(t), Numbers(d)]) => {
+                answered(library::commit(p, profile, a, s, lent(t), lent(d)))
             }
             (
-                Operation::Message,
+                Operation::Message(profile),
                 [Words(a), Numbers(s1), Numbers(s2)],
                 [Numbers(v), Words(tt), Numbers(dd), Numbers(ss)],
-            ) => answered(lova::message(p, a, s1, s2, lent(v), lent(tt), lent(dd), lent(ss))),
-            (Operation::FoldWitness, [Numbers(ss), Bytes(c)], [Numbers(s)]) => {
-                answered(lova::fold_witness(p, ss, c, lent(s)))
+            ) => answered(library::message(p, profile, a, s1, s2, lent(v), lent(tt), lent(dd), lent(ss))),
+            (Operation::FoldWitness(profile), [Numbers(ss), Bytes(c)], [Numbers(s)]) => {
+                answered(library::fold_witness(p, profile, ss, c, lent(s)))
             }
             (
-                Operation::Join,
+                Operation::Join(profile),
                 [Words(t1), Numbers(d1), Words(t2), Numbers(d2), Numbers(v)],
                 [Words(t), Numbers(d)],
-            ) => answered(lova::join(p, t1, d1, t2, d2, v, lent(t), lent(d))),
+            ) => answered(library::join(p, profile, t1, d1, t2, d2, v, lent(t), lent(d))),
             (
-                Operation::Verify,
+                Operation::Verify(profile),
                 [Words(t1), Numbers(d1), Words(t2), Numbers(d2), Numbers(v), Words(tt), Numbers(dd), Bytes(c)],
                 [Words(t), Numbers(d)],
-            ) => judged(lova::verify(p, t1, d1, t2, d2, v, tt, dd, c, lent(t), lent(d))),
+            ) => judged(library::verify(p, profile, t1, d1, t2, d2, v, tt, dd, c, lent(t), lent(d))),
             (Operation::TestRelation, [Words(a), Words(t), Numbers(d), Numbers(s)], []) => {
                 related(lova::test_relation(p, a, t, d, s))
             }
@@ -236,32 +272,38 @@ impl Call {
     fn by_reference(&self, written: &mut [Slice]) -> Answer {
         let p = &self.p;
         match (self.operation, &self.read[..], written) {
-            (Operation::Commit, [Words(a), Numbers(s)], [Words(t), Numbers(d)]) => {
-                operations::commit(p, a, s, lent(t), lent(d))
+            (Operation::Commit(profile), [Words(a), Numbers(s)], [Words(t), Numbers(d)]) => {
+                operations::commit(p, profile, a, s, lent(t), lent(d))
             }
             (
-                Operation::Message,
+                Operation::Message(profile),
                 [Words(a), Numbers(s1), Numbers(s2)],
                 [Numbers(v), Words(tt), Numbers(dd), Numbers(ss)],
-            ) => operations::message(p, a, s1, s2, lent(v), lent(tt), lent(dd), lent(ss)),
-            (Operation::FoldWitness, [Numbers(ss), Bytes(c)], [Numbers(s)]) => {
-                operations::folded_witness(p, ss, c, lent(s))
+            ) => operations::message(p, profile, a, s1, s2, lent(v), lent(tt), lent(dd), lent(ss)),
+            (Operation::FoldWitness(profile), [Numbers(ss), Bytes(c)], [Numbers(s)]) => {
+                operations::folded_witness(p, profile, ss, c, lent(s))
             }
             (
-                Operation::Join,
+                Operation::Join(profile),
                 [Words(t1), Numbers(d1), Words(t2), Numbers(d2), Numbers(v)],
                 [Words(t), Numbers(d)],
-            ) => operations::join(p, t1, d1, t2, d2, v, lent(t), lent(d)),
+            ) => operations::join(p, profile, t1, d1, t2, d2, v, lent(t), lent(d)),
             (
-                Operation::Verify,
+                Operation::Verify(profile),
                 [Words(t1), Numbers(d1), Words(t2), Numbers(d2), Numbers(v), Words(tt), Numbers(dd), Bytes(c)],
                 [Words(t), Numbers(d)],
-            ) => operations::verdict(p, t1, d1, t2, d2, v, tt, dd, c, lent(t), lent(d)),
+            ) => operations::verdict(p, profile, t1, d1, t2, d2, v, tt, dd, c, lent(t), lent(d)),
             (Operation::TestRelation, [Words(a), Words(t), Numbers(d), Numbers(s)], []) => {
                 operations::relation(p, a, t, d, s)
             }
             _ => panic!("the slices are not those of {:?}", self.operation),
         }
+    }
+
+    /// The place of a comparison, for a message.
+    pub fn place(&self, case: u64) -> String {
+        let lengths: Vec<usize> = self.read.iter().map(Slice::length).collect();
+        format!("seed {}, case {case}: {:?} at {:?}, lengths {lengths:?}", seed(), self.operation, self.p)
     }
 
     /// Make the call both ways. The answers must be equal, and so must all that the outputs and
@@ -270,16 +312,18 @@ impl Call {
         let (mut ours, mut theirs) = (self.written.clone(), self.written.clone());
         let answer = self.by_library(&mut ours);
         let expected = self.by_reference(&mut theirs);
-        let lengths: Vec<usize> = self.read.iter().map(Slice::length).collect();
-        let call = format!("{:?} at {:?}, lengths {lengths:?}", self.operation, self.p);
-        let place = || format!("seed {}, case {case}: {call}", seed());
-        assert_eq!(answer, expected, "{}", place());
+        assert_eq!(answer, expected, "{}", self.place(case));
         if !matches!(expected, Answer::Done | Answer::Yes) {
-            assert!(ours == self.written, "{}: {expected:?}, and yet an output was written", place());
+            assert!(ours == self.written, "{}: {expected:?}, and yet an output was written", self.place(case));
         }
-        for (number, (own, other)) in ours.iter().zip(&theirs).enumerate() {
-            assert!(own == other, "{}: output {number}: {}", place(), own.difference(other));
-        }
+        assert_equal(&ours, &theirs, || self.place(case));
         expected
+    }
+}
+
+/// Ask that what outputs hold after two calls is equal.
+pub fn assert_equal(ours: &[Slice], theirs: &[Slice], place: impl Fn() -> String) {
+    for (number, (own, other)) in ours.iter().zip(theirs).enumerate() {
+        assert!(own == other, "{}: output {number}: {}", place(), own.difference(other));
     }
 }

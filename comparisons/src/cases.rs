@@ -6,13 +6,14 @@ use crate::seed::{below, once_in, pick};
 use crate::settings::{accepted_where, bordering_evenly, FULL};
 use crate::verdicts::judged;
 use reference::matrices::{inner_products, wrapped, wrapping_product};
+use reference::operations::Profile;
 use reference::rng::Rng;
 use reference::settings::{refusal, Parameters};
 
 /// Noise of the type that a matrix has.
 fn noise(rng: &mut Rng, matrix: Matrix, length: usize) -> Slice {
     match matrix {
-        Matrix::A | Matrix::T | Matrix::DigitT | Matrix::JoinedT => Slice::Words(words(rng, length)),
+        Matrix::A | Matrix::T | Matrix::RightT | Matrix::DigitT | Matrix::JoinedT => Slice::Words(words(rng, length)),
         Matrix::C => Slice::Bytes(bytes(rng, length)),
         _ => Slice::Numbers(numbers(rng, length)),
     }
@@ -20,14 +21,15 @@ fn noise(rng: &mut Rng, matrix: Matrix, length: usize) -> Slice {
 
 /// The call of an operation that reads these slices at an accepted setting.
 fn call(rng: &mut Rng, operation: Operation, p: Parameters, read: Vec<Slice>) -> Call {
-    let output = |matrix: &Matrix| noise(rng, *matrix, matrix.length(&p) as usize + 2 * GUARD);
+    let profile = operation.profile();
+    let output = |matrix: &Matrix| noise(rng, *matrix, matrix.length(&p, profile) as usize + 2 * GUARD);
     let written = operation.writes().iter().map(output).collect();
     Call { operation, p, read, written }
 }
 
 /// What the folded witness reads; a byte or a digit is out of bounds now and then, or both are.
-fn folding(rng: &mut Rng, p: &Parameters) -> Vec<Slice> {
-    let (mut ss, mut c) = (digits(rng, p), challenge(rng, Matrix::C.length(p) as usize));
+fn folding(rng: &mut Rng, p: &Parameters, profile: Profile) -> Vec<Slice> {
+    let (mut ss, mut c) = (digits(rng, p, profile), challenge(rng, Matrix::C.length(p, profile) as usize));
     if once_in(rng, 4) {
         let place = below(rng, ss.len());
         let at = pick(rng, &[0, ss.len() - 1, place]);
@@ -64,14 +66,15 @@ fn relation(rng: &mut Rng, p: &Parameters) -> Vec<Slice> {
 
 /// A call at an accepted setting with the right lengths; what it reads may be damaged.
 pub fn fitting(rng: &mut Rng, operation: Operation, p: Parameters) -> Call {
-    let a = |rng: &mut Rng| Slice::Words(words(rng, Matrix::A.length(&p) as usize));
-    let s = |rng: &mut Rng| Slice::Numbers(any_witness(rng, &p));
+    let length = |matrix: &Matrix| matrix.length(&p, operation.profile()) as usize;
+    let a = |rng: &mut Rng| Slice::Words(words(rng, length(&Matrix::A)));
+    let s = |rng: &mut Rng, p: &Parameters| Slice::Numbers(any_witness(rng, p));
     let read = match operation {
-        Operation::Commit => vec![a(rng), s(rng)],
-        Operation::Message => vec![a(rng), s(rng), s(rng)],
-        Operation::FoldWitness => folding(rng, &p),
-        Operation::Join => operation.reads().iter().map(|x| noise(rng, *x, x.length(&p) as usize)).collect(),
-        Operation::Verify => judged(rng, &p).slices(),
+        Operation::Commit(profile) => vec![a(rng), s(rng, &second(&p, profile))],
+        Operation::Message(profile) => vec![a(rng), s(rng, &p), s(rng, &second(&p, profile))],
+        Operation::FoldWitness(profile) => folding(rng, &p, profile),
+        Operation::Join(_) => operation.reads().iter().map(|x| noise(rng, *x, length(x))).collect(),
+        Operation::Verify(profile) => judged(rng, &p, profile).slices(),
         Operation::TestRelation => relation(rng, &p),
     };
     call(rng, operation, p, read)
@@ -81,7 +84,8 @@ pub fn fitting(rng: &mut Rng, operation: Operation, p: Parameters) -> Call {
 fn refused(rng: &mut Rng, operation: Operation, p: Parameters) -> Call {
     let few = once_in(rng, 2);
     let mut slice = |matrix: &Matrix, around: usize| {
-        let length = if few { rng.word() as usize % 4 } else { matrix.length(&p).min(300) as usize };
+        let whole = matrix.length(&p, operation.profile()).min(300) as usize;
+        let length = if few { rng.word() as usize % 4 } else { whole };
         noise(rng, *matrix, length + around)
     };
     let read = operation.reads().iter().map(|matrix| slice(matrix, 0)).collect();

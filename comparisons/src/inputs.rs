@@ -2,7 +2,8 @@
 
 use crate::seed::{below, once_in, pick};
 use reference::digits::digit_matrix;
-use reference::matrices::beside;
+use reference::matrices::{beside, cut};
+use reference::operations::Profile;
 use reference::rng::Rng;
 use reference::settings::{shape, Parameters, Shape};
 
@@ -15,6 +16,14 @@ const FAR: [i64; 12] = [
 /// The shape of a setting that is known to be accepted.
 pub fn shaped(p: &Parameters) -> Shape {
     shape(p).expect("an accepted setting")
+}
+
+/// The setting in whose form the second witness of a fold is a witness: t is 1 for a vector.
+pub fn second(p: &Parameters, profile: Profile) -> Parameters {
+    match profile {
+        Profile::General => *p,
+        Profile::Fresh => Parameters { t: 1, ..*p },
+    }
 }
 
 /// Unsigned words, often near the ends.
@@ -116,14 +125,15 @@ pub fn spoil_challenge(rng: &mut Rng, c: &mut [u8]) {
 }
 
 /// A digit witness: of two witnesses, random within h, or all at h.
-pub fn digits(rng: &mut Rng, p: &Parameters) -> Vec<i64> {
+pub fn digits(rng: &mut Rng, p: &Parameters, profile: Profile) -> Vec<i64> {
     let z = shaped(p);
     let (length, h) = (z.m * z.columns, z.h as i64);
-    match rng.word() % 4 {
+    let general = match rng.word() % 4 {
         0 => within(rng, length, h),
         1 => vec![signed(rng, h); length],
         _ => digit_matrix(&beside(&witness(rng, p), &witness(rng, p), z.m, z.t), z.m, 2 * z.t, z.b, z.k),
-    }
+    };
+    cut(&general, z.columns, profile.columns(&z))
 }
 
 /// Random numbers of at most this size; the limit itself is frequent.

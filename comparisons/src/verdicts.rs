@@ -4,11 +4,12 @@ use crate::calls::Slice;
 use crate::inputs::*;
 use crate::seed::{below, once_in, pick};
 use reference::digits::digits;
-use reference::matrices::{product, transposed, whole, words as fitted, wrapping_product};
-use reference::operations::gadget;
+use reference::matrices::{cut, product, transposed, whole, words as fitted, wrapping_product};
+use reference::operations::{gadget, Profile};
 use reference::rng::Rng;
 use reference::settings::{Parameters, Shape};
 use reference::tree::{honest_message, leaf, Message, Node};
+use std::ops::Range;
 
 /// What the verdict reads.
 pub struct Judged {
@@ -32,23 +33,23 @@ impl Judged {
 }
 
 /// An honest fold of two witnesses within B.
-fn honest(rng: &mut Rng, p: &Parameters, c: Vec<u8>) -> Judged {
+fn honest(rng: &mut Rng, p: &Parameters, profile: Profile, c: Vec<u8>) -> Judged {
     let a = words(rng, (p.n * p.m) as usize);
-    let mut node = || leaf(p, &a, &witness(rng, p)).expect("a witness within B");
-    let (left, right) = (node(), node());
-    let sent = honest_message(p, &a, &left.s, &right.s).expect("witnesses within B");
+    let left = leaf(p, Profile::General, &a, &witness(rng, p)).expect("a witness within B");
+    let right = leaf(p, profile, &a, &witness(rng, &second(p, profile))).expect("a witness within B");
+    let sent = honest_message(p, profile, &a, &left.s, &right.s).expect("witnesses within B");
     Judged { left, right, sent, c }
 }
 
 /// A D~ within H, all at H in size or random, whose parts for S1 and S2 are mirrored but need not be symmetric.
-fn mirrored(rng: &mut Rng, z: &Shape) -> Vec<i64> {
-    let (columns, limit) = (z.columns, z.product_limit as i64);
+fn mirrored(rng: &mut Rng, z: &Shape, columns: usize) -> Vec<i64> {
+    let limit = z.product_limit as i64;
     if once_in(rng, 3) {
         return vec![pick(rng, &[limit, -limit]); columns * columns];
     }
     let mut dd = within(rng, columns * columns, limit);
-    for i in columns / 2..columns {
-        for j in 0..columns / 2 {
+    for i in z.k * z.t..columns {
+        for j in 0..z.k * z.t {
             dd[i * columns + j] = dd[j * columns + i];
         }
     }
@@ -57,62 +58,66 @@ fn mirrored(rng: &mut Rng, z: &Shape) -> Vec<i64> {
 
 /// Change the blocks of D~ on the diagonal so that the diagonal entries of the joined D are at most B; now and then
 /// one is above it.
-fn set_diagonal(rng: &mut Rng, z: &Shape, dd: &mut [i64]) {
-    let bound = z.bound as i64;
-    let long = once_in(rng, 4).then(|| below(rng, 2 * z.t));
-    for j in 0..2 * z.t {
+fn set_diagonal(rng: &mut Rng, z: &Shape, columns: usize, dd: &mut [i64]) {
+    let (bound, blocks) = (z.bound as i64, columns / z.k);
+    let long = once_in(rng, 4).then(|| below(rng, blocks));
+    for j in 0..blocks {
         let random = (rng.word() % z.bound) as i64;
         let entry = if long == Some(j) { bound + 1 } else { pick(rng, &[bound, random, random, -random]) };
         for i in 0..z.k {
-            let start = (j * z.k + i) * z.columns + j * z.k;
+            let start = (j * z.k + i) * columns + j * z.k;
             dd[start..start + z.k].fill(0);
         }
         // The digit of weight b^p, one for each p.
         for (p, digit) in digits(entry, z.b, 2 * z.k - 1).into_iter().enumerate() {
-            dd[(j * z.k + p / 2) * z.columns + j * z.k + p - p / 2] = digit;
+            dd[(j * z.k + p / 2) * columns + j * z.k + p - p / 2] = digit;
         }
     }
 }
 
-/// The block of a 2t by 2t matrix that starts at this row and column.
-fn block<E: Copy>(joined: &[E], t: usize, rows: std::ops::Range<usize>, column: usize) -> Vec<E> {
-    rows.flat_map(|i| joined[i * 2 * t + column..i * 2 * t + column + t].to_vec()).collect()
+/// The block of a matrix with these rows and columns.
+fn block<E: Copy>(matrix: &[E], width: usize, rows: Range<usize>, columns: Range<usize>) -> Vec<E> {
+    rows.flat_map(|i| matrix[i * width + columns.start..i * width + columns.end].to_vec()).collect()
 }
 
 /// Instances made to fit a message of any T~ and a mirrored D~, so that both equations hold with no witness at all.
-fn made(rng: &mut Rng, z: &Shape, c: Vec<u8>) -> Judged {
-    let (mut dd, tt, g) = (mirrored(rng, z), words(rng, z.n * z.columns), gadget(z));
+fn made(rng: &mut Rng, z: &Shape, profile: Profile, c: Vec<u8>) -> Judged {
+    let (t, columns, wide) = (z.t, profile.columns(z), z.t + profile.right(z));
+    let (mut dd, tt) = (mirrored(rng, z, columns), words(rng, z.n * columns));
     if !once_in(rng, 4) {
-        set_diagonal(rng, z, &mut dd);
+        set_diagonal(rng, z, columns, &mut dd);
     }
-    let (columns, t) = (z.columns, z.t);
+    // G for as many columns as [S1 S2] has.
+    let g = cut(&gadget(z)[..columns * 2 * t], 2 * t, wide);
     let powers: Vec<i128> = g.iter().map(|power| *power as i128).collect();
-    let right = product(&whole(&dd), &powers, columns, columns, 2 * t);
-    let d = fitted(&product(&transposed(&powers, columns, 2 * t), &right, 2 * t, columns, 2 * t));
-    let joined = wrapping_product(&tt, &g, z.n, columns, 2 * t);
-    let node = |column: usize| Node {
-        t: block(&joined, t, 0..z.n, column),
-        d: block(&d, t, column..column + t, column),
+    let right = product(&whole(&dd), &powers, columns, columns, wide);
+    let d = fitted(&product(&transposed(&powers, columns, wide), &right, wide, columns, wide));
+    let joined = wrapping_product(&tt, &g, z.n, columns, wide);
+    let node = |part: Range<usize>| Node {
+        t: block(&joined, wide, 0..z.n, part.clone()),
+        d: block(&d, wide, part.clone(), part),
         s: Vec::new(),
     };
-    let sent = Message { v: block(&d, t, 0..t, t), tt, dd, ss: Vec::new() };
-    Judged { left: node(0), right: node(t), sent, c }
+    let sent = Message { v: block(&d, wide, 0..t, t..wide), tt, dd, ss: Vec::new() };
+    Judged { left: node(0..t), right: node(t..wide), sent, c }
 }
 
 /// Inputs that have nothing to do with each other, D~ within H.
-fn unrelated(rng: &mut Rng, z: &Shape, c: Vec<u8>) -> Judged {
-    let mut node = || Node { t: words(rng, z.n * z.t), d: numbers(rng, z.t * z.t), s: Vec::new() };
-    let (left, right) = (node(), node());
-    let dd = within(rng, z.columns * z.columns, z.product_limit as i64);
-    let sent = Message { v: numbers(rng, z.t * z.t), tt: words(rng, z.n * z.columns), dd, ss: Vec::new() };
-    Judged { left, right, sent, c }
+fn unrelated(rng: &mut Rng, z: &Shape, profile: Profile, c: Vec<u8>) -> Judged {
+    let (right, columns) = (profile.right(z), profile.columns(z));
+    let mut node = |width: usize| Node { t: words(rng, z.n * width), d: numbers(rng, width * width), s: Vec::new() };
+    let (left, right_node) = (node(z.t), node(right));
+    let dd = within(rng, columns * columns, z.product_limit as i64);
+    let sent = Message { v: numbers(rng, z.t * right), tt: words(rng, z.n * columns), dd, ss: Vec::new() };
+    Judged { left, right: right_node, sent, c }
 }
 
 /// Change D~: one entry by one, past H, or in ways that the first equation cannot see.
 fn damage_products(rng: &mut Rng, z: &Shape, dd: &mut [i64]) {
     let (at, sign) = (below(rng, dd.len()), pick(rng, &[1, -1]));
     let start = at / z.k * z.k;
-    let row = below(rng, 2 * z.t) * z.k;
+    let columns = dd.len().isqrt();
+    let row = below(rng, columns / z.k) * z.k;
     match rng.word() % 5 {
         0 | 1 => dd[at] = dd[at].wrapping_add(sign),
         2 => dd[at] = beyond(rng, z.product_limit as i64),
@@ -123,7 +128,7 @@ fn damage_products(rng: &mut Rng, z: &Shape, dd: &mut [i64]) {
         }
         // A skew change inside a block on the diagonal.
         _ => {
-            let (one, two) = (row * z.columns + row + 1, (row + 1) * z.columns + row);
+            let (one, two) = (row * columns + row + 1, (row + 1) * columns + row);
             dd[one] = dd[one].wrapping_add(sign);
             dd[two] = dd[two].wrapping_sub(sign);
         }
@@ -145,41 +150,50 @@ fn damage_commitments(rng: &mut Rng, z: &Shape, tt: &mut [u64]) {
     }
 }
 
+/// Exchange the entries of two slices, as far as both go.
+fn exchange<E>(one: &mut [E], two: &mut [E]) {
+    one.iter_mut().zip(two).for_each(|(one, two)| std::mem::swap(one, two));
+}
+
 /// Change an instance or V: an entry by a power of two, a diagonal entry to B, one above or below −B, V to its
-/// transposed, or the sides swapped.
+/// transposed, or the sides exchanged.
 fn damage_instances(rng: &mut Rng, z: &Shape, input: &mut Judged) {
     let bit = pick(rng, &[0, 1, 31, 32, 62, 63]);
+    let (left, right) = (&mut input.left, &mut input.right);
     match rng.word() % 9 {
         0 | 1 => {
-            let t = if once_in(rng, 2) { &mut input.left.t } else { &mut input.right.t };
+            let t = if once_in(rng, 2) { &mut left.t } else { &mut right.t };
             let at = below(rng, t.len());
             t[at] ^= 1 << bit;
         }
         2 | 3 => {
             let d = pick(rng, &[0, 1, 2]);
-            let d = [&mut input.left.d, &mut input.right.d, &mut input.sent.v].into_iter().nth(d).expect("three");
+            let d = [&mut left.d, &mut right.d, &mut input.sent.v].into_iter().nth(d).expect("three");
             let at = below(rng, d.len());
             d[at] ^= 1 << bit;
         }
         4 | 5 => {
-            let d = if once_in(rng, 2) { &mut input.left.d } else { &mut input.right.d };
-            let (bound, at) = (z.bound as i64, below(rng, z.t) * (z.t + 1));
-            d[at] = pick(rng, &[bound, bound + 1, -bound - 1]);
+            let d = if once_in(rng, 2) { &mut left.d } else { &mut right.d };
+            let (bound, side) = (z.bound as i64, d.len().isqrt());
+            d[below(rng, side) * (side + 1)] = pick(rng, &[bound, bound + 1, -bound - 1]);
         }
-        6 => input.sent.v = transposed(&input.sent.v, z.t, z.t),
-        7 => std::mem::swap(&mut input.left, &mut input.right),
-        _ => std::mem::swap(&mut input.left.t, &mut input.right.t),
+        6 => input.sent.v = transposed(&input.sent.v, z.t, input.sent.v.len() / z.t),
+        7 => {
+            exchange(&mut left.t, &mut right.t);
+            exchange(&mut left.d, &mut right.d);
+        }
+        _ => exchange(&mut left.t, &mut right.t),
     }
 }
 
 /// Any inputs of the verdict with the right lengths: half of them damaged, once or twice.
-pub fn judged(rng: &mut Rng, p: &Parameters) -> Judged {
+pub fn judged(rng: &mut Rng, p: &Parameters, profile: Profile) -> Judged {
     let z = shaped(p);
     let c = challenge(rng, z.columns * z.t);
     let mut input = match rng.word() % 8 {
-        0 => unrelated(rng, &z, c),
-        1..=3 => made(rng, &z, c),
-        _ => honest(rng, p, c),
+        0 => unrelated(rng, &z, profile, c),
+        1..=3 => made(rng, &z, profile, c),
+        _ => honest(rng, p, profile, c),
     };
     for _ in 0..pick(rng, &[0, 0, 1, 2]) {
         match rng.word() % 8 {

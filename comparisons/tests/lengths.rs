@@ -6,6 +6,7 @@ use comparisons::seed::{below, generator};
 use comparisons::settings::{accepted_where, FULL};
 use comparisons::tally::Tally;
 use reference::operations::Answer;
+use reference::operations::Profile::{Fresh, General};
 use reference::settings::{Parameters, LIST};
 
 /// The work of a case, in products of two entries.
@@ -13,7 +14,14 @@ const WORK: u128 = 4_000;
 
 /// Whether a setting is small enough for many cases.
 fn small(p: &Parameters) -> bool {
-    Operation::Verify.work(p) <= WORK
+    Operation::Verify(General).work(p) <= WORK
+}
+
+/// Ask that the names of all operations occurred, and these words.
+fn finish(tally: Tally, words: &[&str]) {
+    let names = Operation::ALL.map(Operation::name);
+    let names: Vec<&str> = names.iter().map(String::as_str).collect();
+    tally.finish(&[&names, words].concat());
 }
 
 /// Give the slice at this place another length.
@@ -23,14 +31,22 @@ fn change(call: &mut Call, place: usize, other: impl Fn(usize) -> usize) {
     slice.resize(other(length) + *around);
 }
 
-/// The call with each slice in turn at each wrong length.
+/// The call with each slice in turn at each wrong length, that of the other profile included.
 fn each_slice(call: &Call, tally: &mut Tally, case: u64) {
-    for place in 0..call.read.len() + call.written.len() {
-        for kind in 0..5 {
+    let profile = call.operation.profile();
+    let other = if profile == General { Fresh } else { General };
+    for (place, matrix) in [call.operation.reads(), call.operation.writes()].concat().iter().enumerate() {
+        let [length, other] = [profile, other].map(|profile| matrix.length(&call.p, profile) as usize);
+        let mut lengths = other_lengths(length).to_vec();
+        if other != length {
+            lengths.push(other);
+            tally.note("a length of the other profile");
+        }
+        for length in lengths {
             let mut wrong = call.clone();
-            change(&mut wrong, place, |length| other_lengths(length)[kind]);
+            change(&mut wrong, place, |_| length);
             assert_eq!(wrong.compare(case), Answer::Refused(7));
-            tally.case(&format!("{:?}", call.operation));
+            tally.case(&call.operation.name());
         }
     }
 }
@@ -46,7 +62,7 @@ fn wrong_lengths() {
             each_slice(&call, &mut tally, case);
         }
     }
-    tally.finish(&["Commit", "FoldWitness", "Join", "Message", "TestRelation", "Verify"]);
+    finish(tally, &["a length of the other profile"]);
 }
 
 #[test]
@@ -55,7 +71,7 @@ fn one_entry_moved() {
     let (mut rng, mut tally) = (generator("one_entry_moved"), Tally::new("one_entry_moved"));
     for case in 0..9000 {
         let p = accepted_where(&mut rng, FULL, small);
-        let operation = Operation::ALL[case as usize % 6];
+        let operation = Operation::ALL[case as usize % Operation::ALL.len()];
         let mut call = fitting(&mut rng, operation, p);
         let slices = call.read.len() + call.written.len();
         let longer = below(&mut rng, slices);
@@ -63,7 +79,7 @@ fn one_entry_moved() {
         change(&mut call, longer, |length| length + 1);
         change(&mut call, shorter, |length| length - 1);
         assert_eq!(call.compare(case), Answer::Refused(7));
-        tally.case(&format!("{operation:?}"));
+        tally.case(&operation.name());
     }
-    tally.finish(&["Commit", "FoldWitness", "Join", "Message", "TestRelation", "Verify"]);
+    finish(tally, &[]);
 }

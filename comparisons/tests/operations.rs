@@ -1,12 +1,14 @@
-//! Every operation of the static library against the reference, on random and damaged inputs.
+//! Every operation of the static library against the reference, on random and damaged inputs, and each fresh call also
+//! against the library's general one.
 
-use comparisons::calls::{Call, Operation, Slice};
+use comparisons::calls::{Call, Matrix, Operation, Slice};
 use comparisons::cases::{any, fitting};
 use comparisons::seed::generator;
 use comparisons::settings::{accepted_where, FULL};
 use comparisons::tally::Tally;
 use reference::matrices::squared_length;
 use reference::operations::Answer;
+use reference::operations::Profile::{self, Fresh, General};
 use reference::settings::{refusal, Parameters, LIST};
 
 /// The work of a case, in products of two entries.
@@ -18,6 +20,14 @@ const LARGE_WORK: u128 = 40_000_000;
 /// The refusals that every operation has.
 const COMMON: [&str; 7] =
     ["refused(1)", "refused(2)", "refused(3)", "refused(4)", "refused(5)", "refused(6)", "refused(7)"];
+
+/// What is counted of fresh calls alone.
+fn counted(profile: Profile) -> &'static [&'static str] {
+    match profile {
+        General => &[],
+        Fresh => &["as the general call", "t is 1", "t is above 1", "b is even", "b is odd"],
+    }
+}
 
 /// Large settings, each at some limit: N = 512, m = 4096, the most rows and columns, the greatest b, the greatest k.
 const LARGE: [Parameters; 9] = [
@@ -39,36 +49,48 @@ const fn setting(n: u64, m: u64, t: u64, b: u64, bound: u64) -> Parameters {
 
 /// Compare this many random calls of an operation, and count what they answer and the borders that they reach.
 fn compared(operation: Operation, cases: u64) -> Tally {
-    let name = format!("{operation:?}");
+    let name = operation.name();
     let (mut rng, mut tally) = (generator(&name), Tally::new(&name));
     for case in 0..cases {
         let call = any(&mut rng, operation, WORK);
         let answer = call.compare(case);
         tally.case(&answer.word());
+        if call.compare_repeated(case) {
+            tally.note("as the general call");
+        }
         if refusal(&call.p) == 0 {
-            note_borders(&mut tally, &call);
+            note_setting(&mut tally, &call);
+            note_columns(&mut tally, &call);
             note_diagonals(&mut tally, &call, answer);
         }
     }
     tally
 }
 
-/// The same; the words are the operation's answers beside the common refusals.
+/// The same; the words are the operation's answers beside the common refusals, and the borders.
 fn compare(operation: Operation, cases: u64, words: &[&str]) {
-    compared(operation, cases).finish(&[&COMMON, words].concat());
+    compared(operation, cases).finish(&[&COMMON, words, counted(operation.profile())].concat());
 }
 
-/// Count settings with N = 512, and commitments to witnesses with a column at B exactly, or one above.
-fn note_borders(tally: &mut Tally, call: &Call) {
-    let (m, t) = (call.p.m as usize, call.p.t as usize);
+/// Count settings with N = 512, and of fresh calls those with one column and more, and with either kind of base.
+fn note_setting(tally: &mut Tally, call: &Call) {
     if call.p.columns() == 512 {
         tally.note("N is 512");
     }
-    let Slice::Numbers(s) = &call.read[1] else { return };
-    if call.operation != Operation::Commit || s.len() != m * t {
+    if call.operation.profile() == Fresh {
+        tally.note(if call.p.t == 1 { "t is 1" } else { "t is above 1" });
+        tally.note(if call.p.b.is_multiple_of(2) { "b is even" } else { "b is odd" });
+    }
+}
+
+/// Count commitments to witnesses with a column at B exactly, or one above.
+fn note_columns(tally: &mut Tally, call: &Call) {
+    let (Operation::Commit(profile), [_, Slice::Numbers(s)]) = (call.operation, &call.read[..]) else { return };
+    if s.len() as u128 != Matrix::RightS.length(&call.p, profile) {
         return;
     }
-    let lengths: Vec<Option<u128>> = (0..t).map(|j| squared_length(s, m, t, j)).collect();
+    let (m, columns) = (call.p.m as usize, s.len() / call.p.m as usize);
+    let lengths: Vec<Option<u128>> = (0..columns).map(|j| squared_length(s, m, columns, j)).collect();
     for (over, border) in [(0, "a column at B"), (1, "a column at B + 1")] {
         if lengths.contains(&Some(call.p.bound as u128 + over)) {
             tally.note(border);
@@ -78,12 +100,11 @@ fn note_borders(tally: &mut Tally, call: &Call) {
 
 /// Count verdicts on instances whose diagonals lie at B, one above it or below 0, or where D2 alone is long.
 fn note_diagonals(tally: &mut Tally, call: &Call, answer: Answer) {
-    if call.operation != Operation::Verify || ![Answer::Yes, Answer::Long].contains(&answer) {
+    if !matches!(call.operation, Operation::Verify(_)) || ![Answer::Yes, Answer::Long].contains(&answer) {
         return;
     }
     let [_, Slice::Numbers(d1), _, Slice::Numbers(d2), ..] = &call.read[..] else { return };
-    let t = call.p.t as usize;
-    let diagonal = |d: &[i64]| (0..t).map(|i| i128::from(d[i * (t + 1)])).collect::<Vec<_>>();
+    let diagonal = |d: &[i64]| d.iter().step_by(d.len().isqrt() + 1).map(|x| i128::from(*x)).collect::<Vec<_>>();
     let (first, all) = (diagonal(d1), [diagonal(d1), diagonal(d2)].concat());
     let (bound, greatest) = (i128::from(call.p.bound), *all.iter().max().expect("t is not 0"));
     let notes = [
@@ -95,37 +116,70 @@ fn note_diagonals(tally: &mut Tally, call: &Call, answer: Answer) {
     notes.iter().filter(|(holds, _)| *holds).for_each(|(_, note)| tally.note(note));
 }
 
+/// The borders of a commitment.
+const COMMITTED: [&str; 5] = ["done", "refused(8)", "N is 512", "a column at B", "a column at B + 1"];
+
 #[test]
 fn commit() {
-    compare(Operation::Commit, 40000, &["done", "refused(8)", "N is 512", "a column at B", "a column at B + 1"]);
+    compare(Operation::Commit(General), 40000, &COMMITTED);
+}
+
+#[test]
+fn commit_fresh() {
+    compare(Operation::Commit(Fresh), 12000, &COMMITTED);
 }
 
 #[test]
 fn message() {
-    compare(Operation::Message, 30000, &["done", "refused(8)"]);
+    compare(Operation::Message(General), 30000, &["done", "refused(8)"]);
+}
+
+#[test]
+fn message_fresh() {
+    compare(Operation::Message(Fresh), 10000, &["done", "refused(8)"]);
 }
 
 #[test]
 fn fold_witness() {
-    compare(Operation::FoldWitness, 40000, &["done", "N is 512", "refused(9)", "refused(11)"]);
+    compare(Operation::FoldWitness(General), 40000, &["done", "N is 512", "refused(9)", "refused(11)"]);
+}
+
+#[test]
+fn fold_witness_fresh() {
+    compare(Operation::FoldWitness(Fresh), 12000, &["done", "N is 512", "refused(9)", "refused(11)"]);
 }
 
 #[test]
 fn join() {
-    compare(Operation::Join, 40000, &["done", "N is 512"]);
+    compare(Operation::Join(General), 40000, &["done", "N is 512"]);
 }
 
 #[test]
-fn verify() {
-    let tally = compared(Operation::Verify, 50000);
-    for (word, least) in [("yes", 10_000), ("long", 1_000), ("norm", 1_000), ("commitment", 1_000)] {
-        assert!(tally.count(word) > least, "{word}: {} of 50000", tally.count(word));
+fn join_fresh() {
+    compare(Operation::Join(Fresh), 12000, &["done", "N is 512"]);
+}
+
+/// Compare verdicts; each answer is to be frequent.
+fn compare_verdicts(profile: Profile, cases: u64) {
+    let tally = compared(Operation::Verify(profile), cases);
+    for (word, share) in [("yes", 5), ("long", 50), ("norm", 50), ("commitment", 50)] {
+        assert!(tally.count(word) > cases / share, "{word}: {} of {cases}", tally.count(word));
     }
     let words = ["yes", "long", "norm", "commitment", "refused(9)", "refused(10)"];
     let borders = [
         "yes with a diagonal entry at B", "yes with a diagonal entry below 0", "long by one", "long in D2 alone",
     ];
-    tally.finish(&[&COMMON[..], &words, &borders].concat());
+    tally.finish(&[&COMMON[..], &words, &borders, counted(profile)].concat());
+}
+
+#[test]
+fn verify() {
+    compare_verdicts(General, 50000);
+}
+
+#[test]
+fn verify_fresh() {
+    compare_verdicts(Fresh, 15000);
 }
 
 #[test]
@@ -133,21 +187,33 @@ fn test_relation() {
     compare(Operation::TestRelation, 40000, &["member", "long", "products", "commitment", "N is 512"]);
 }
 
-#[test]
-fn large_settings() {
-    let (mut rng, mut tally) = (generator("large_settings"), Tally::new("large_settings"));
+/// Compare calls of the operations of a profile at large settings, of which so many are drawn.
+fn compare_large(name: &str, profile: Profile, drawn: usize) {
+    let (mut rng, mut tally) = (generator(name), Tally::new(name));
     let mut settings = LARGE.to_vec();
-    let large = |p: &Parameters| (LARGE_WORK / 10..=LARGE_WORK).contains(&Operation::Verify.work(p));
-    settings.extend((0..30).map(|_| accepted_where(&mut rng, FULL, large)));
+    let large = |p: &Parameters| (LARGE_WORK / 10..=LARGE_WORK).contains(&Operation::Verify(profile).work(p));
+    settings.extend((0..drawn).map(|_| accepted_where(&mut rng, FULL, large)));
+    let operations = Operation::ALL.into_iter().filter(|operation| operation.profile() == profile);
+    let calls = operations.flat_map(|operation| [operation; 2]).collect::<Vec<Operation>>();
     for (case, p) in settings.into_iter().enumerate() {
         assert_eq!(refusal(&p), 0, "{p:?}");
-        for operation in Operation::ALL {
-            for _ in 0..2 {
-                let answer = fitting(&mut rng, operation, p).compare(case as u64);
-                let taken = matches!(answer, Answer::Done | Answer::Yes | Answer::Member);
-                tally.case(if taken { "taken" } else { "other" });
-            }
+        for operation in &calls {
+            let call = fitting(&mut rng, *operation, p);
+            let answer = call.compare(case as u64);
+            let taken = matches!(answer, Answer::Done | Answer::Yes | Answer::Member);
+            tally.case(if taken { "taken" } else { "other" });
+            assert_eq!(call.compare_repeated(case as u64), profile == Fresh);
         }
     }
     tally.finish(&["taken", "other"]);
+}
+
+#[test]
+fn large_settings() {
+    compare_large("large_settings", General, 30);
+}
+
+#[test]
+fn large_settings_fresh() {
+    compare_large("large_settings_fresh", Fresh, 15);
 }

@@ -1,12 +1,14 @@
-//! Honest trees of the static library: every verdict is yes, and the root is the plain tree's.
+//! Honest trees of the static library, with fresh leaves: every verdict is yes, and the root is the plain tree's.
 
 use comparisons::calls::Operation;
-use comparisons::inputs::{challenge, shaped, witness, words};
-use comparisons::seed::{below, generator, pick, seed};
+use comparisons::inputs::{challenge, second, shaped, witness, words};
+use comparisons::library;
+use comparisons::seed::{below, generator, once_in, pick, seed};
 use comparisons::settings::{accepted_where, FULL};
 use comparisons::tally::Tally;
 use lova::{Membership, Setting, Verdict};
-use reference::matrices::{beside, inner_products, whole, wrapped, wrapping_product};
+use reference::matrices::{beside, inner_products, repeated, whole, wrapped, wrapping_product};
+use reference::operations::Profile::{self, Fresh, General};
 use reference::rng::Rng;
 use reference::settings::{Parameters, Shape, LIST};
 use reference::tree::{plain, Node, Tree};
@@ -26,14 +28,15 @@ struct Grower<'a> {
     z: &'a Shape,
     a: Vec<u64>,
     folds: usize,
+    fresh: usize,
 }
 
 /// Whether a setting is small enough for many folds.
 fn small(p: &Parameters) -> bool {
-    Operation::Verify.work(p) <= 30_000
+    Operation::Verify(General).work(p) <= 30_000
 }
 
-/// A tree with this number of leaves, all within B.
+/// A tree with this number of leaves, all within B; of the leaves that are right children about half are fresh.
 fn tree(rng: &mut Rng, p: &Parameters, leaves: usize, form: Form) -> Tree {
     if leaves == 1 {
         return Tree::Leaf(witness(rng, p));
@@ -44,8 +47,12 @@ fn tree(rng: &mut Rng, p: &Parameters, leaves: usize, form: Form) -> Tree {
         Form::Balanced => leaves / 2,
         Form::Any => 1 + below(rng, leaves - 1),
     };
-    let (one, two) = (tree(rng, p, left, form), tree(rng, p, leaves - left, form));
-    Tree::Fold(Box::new(one), Box::new(two), challenge(rng, (p.columns() * p.t as u128) as usize))
+    let one = Box::new(tree(rng, p, left, form));
+    let c = challenge(rng, (p.columns() * p.t as u128) as usize);
+    if leaves - left == 1 && once_in(rng, 2) {
+        return Tree::FoldFresh(one, witness(rng, &second(p, Fresh)), c);
+    }
+    Tree::Fold(one, Box::new(tree(rng, p, leaves - left, form)), c)
 }
 
 impl Grower<'_> {
@@ -58,10 +65,15 @@ impl Grower<'_> {
     /// The instance and witness of a tree, by the honest calls.
     fn grow(&mut self, tree: &Tree) -> Node {
         let node = match tree {
-            Tree::Leaf(s) => self.leaf(s),
+            Tree::Leaf(s) => self.leaf(General, s),
             Tree::Fold(left, right, c) => {
                 let (left, right) = (self.grow(left), self.grow(right));
-                self.fold(&left, &right, c)
+                self.fold(General, &left, &right, c)
+            }
+            Tree::FoldFresh(left, vector, c) => {
+                let (left, right) = (self.grow(left), self.leaf(Fresh, vector));
+                self.fresh += 1;
+                self.fold(Fresh, &left, &right, c)
             }
         };
         assert_eq!((node.t.clone(), whole(&node.d)), self.opened(&node.s, self.z.t));
@@ -69,41 +81,51 @@ impl Grower<'_> {
     }
 
     /// A leaf: commit.
-    fn leaf(&self, s: &[i64]) -> Node {
-        let (mut t, mut d) = (vec![9; self.z.n * self.z.t], vec![9; self.z.t * self.z.t]);
-        assert_eq!(lova::commit(self.p, &self.a, s, &mut t, &mut d), Ok(()));
+    fn leaf(&self, profile: Profile, s: &[i64]) -> Node {
+        let right = profile.right(self.z);
+        let (mut t, mut d) = (vec![9; self.z.n * right], vec![9; right * right]);
+        assert_eq!(library::commit(self.p, profile, &self.a, s, &mut t, &mut d), Ok(()));
         Node { t, d, s: s.to_vec() }
     }
 
-    /// A fold: message, join, verdict and folded witness.
-    fn fold(&mut self, one: &Node, two: &Node, c: &[u8]) -> Node {
-        let (p, n, m, t, columns) = (self.p, self.z.n, self.z.m, self.z.t, self.z.columns);
-        let (mut v, mut tt) = (vec![9; t * t], vec![9; n * columns]);
-        let (mut dd, mut ss) = (vec![9; columns * columns], vec![9; m * columns]);
-        assert_eq!(lova::message(p, &self.a, &one.s, &two.s, &mut v, &mut tt, &mut dd, &mut ss), Ok(()));
+    /// The joined instance is what both witnesses open, the second with t columns.
+    fn check_join(&self, profile: Profile, one: &Node, two: &Node, v: &[i64]) {
+        let (n, m, t) = (self.z.n, self.z.m, self.z.t);
         let (mut joined_t, mut joined_d) = (vec![9; 2 * n * t], vec![9; 4 * t * t]);
-        let joined = lova::join(p, &one.t, &one.d, &two.t, &two.d, &v, &mut joined_t, &mut joined_d);
+        let joined = library::join(self.p, profile, &one.t, &one.d, &two.t, &two.d, v, &mut joined_t, &mut joined_d);
         assert_eq!(joined, Ok(()));
-        assert_eq!((joined_t, whole(&joined_d)), self.opened(&beside(&one.s, &two.s, m, t), 2 * t));
+        let second = repeated(&two.s, profile.right(self.z), 0, profile.times(self.z));
+        assert_eq!((joined_t, whole(&joined_d)), self.opened(&beside(&one.s, &second, m, t), 2 * t));
+    }
+
+    /// A fold: message, join, verdict and folded witness.
+    fn fold(&mut self, profile: Profile, one: &Node, two: &Node, c: &[u8]) -> Node {
+        let (p, n, m, t, columns) = (self.p, self.z.n, self.z.m, self.z.t, profile.columns(self.z));
+        let (mut v, mut tt) = (vec![9; t * profile.right(self.z)], vec![9; n * columns]);
+        let (mut dd, mut ss) = (vec![9; columns * columns], vec![9; m * columns]);
+        let sent = library::message(p, profile, &self.a, &one.s, &two.s, &mut v, &mut tt, &mut dd, &mut ss);
+        assert_eq!(sent, Ok(()));
+        self.check_join(profile, one, two, &v);
         let mut node = Node { t: vec![9; n * t], d: vec![9; t * t], s: vec![9; m * t] };
         let verdict =
-            lova::verify(p, &one.t, &one.d, &two.t, &two.d, &v, &tt, &dd, c, &mut node.t, &mut node.d);
+            library::verify(p, profile, &one.t, &one.d, &two.t, &two.d, &v, &tt, &dd, c, &mut node.t, &mut node.d);
         assert_eq!(verdict, Ok(Verdict::Yes), "seed {}, fold {} at {p:?}", seed(), self.folds + 1);
-        assert_eq!(lova::fold_witness(p, &ss, c, &mut node.s), Ok(()));
+        assert_eq!(library::fold_witness(p, profile, &ss, c, &mut node.s), Ok(()));
         self.folds += 1;
         node
     }
 }
 
-/// Grow a tree by the library and hold it against the plain tree; the number of folds.
-fn check(rng: &mut Rng, p: &Parameters, tree: &Tree) -> usize {
+/// Grow a tree by the library and hold it against the plain tree; the numbers of its folds and of its fresh leaves.
+fn check(rng: &mut Rng, p: &Parameters, tree: &Tree) -> (usize, usize) {
     let setting = Setting::new(p.n, p.m, p.t, p.b, p.bound).expect("an accepted setting");
-    let mut grower = Grower { p: setting, z: &shaped(p), a: words(rng, (p.n * p.m) as usize), folds: 0 };
+    let a = words(rng, (p.n * p.m) as usize);
+    let mut grower = Grower { p: setting, z: &shaped(p), a, folds: 0, fresh: 0 };
     let root = grower.grow(tree);
     assert_eq!(Some(&root.s), plain(p, tree).as_ref(), "seed {}: the root at {p:?}", seed());
     let member = lova::test_relation(setting, &grower.a, &root.t, &root.d, &root.s);
     assert_eq!(member, Ok(Membership::Member));
-    grower.folds
+    (grower.folds, grower.fresh)
 }
 
 /// Grow trees of random forms at settings that are drawn, and count them.
@@ -114,12 +136,13 @@ fn check_many(name: &str, trees: usize, leaves: usize, draw: impl Fn(&mut Rng, u
         let form = [Form::Any, Form::Left, Form::Balanced, Form::Right][number % 4];
         let leaves = if number < 4 { leaves } else { 1 + below(&mut rng, leaves) };
         let tree = tree(&mut rng, &p, leaves, form);
-        let folds = check(&mut rng, &p, &tree);
+        let (folds, fresh) = check(&mut rng, &p, &tree);
         assert_eq!(folds, leaves - 1);
         tally.case(&format!("{form:?}"));
         (0..folds).for_each(|_| tally.note("yes"));
+        (0..fresh).for_each(|_| tally.note(if p.t == 1 { "fresh at t = 1" } else { "fresh at t > 1" }));
     }
-    tally.finish(&["Any", "Left", "Balanced", "Right", "yes"]);
+    tally.finish(&["Any", "Left", "Balanced", "Right", "yes", "fresh at t = 1", "fresh at t > 1"]);
 }
 
 #[test]
@@ -140,4 +163,20 @@ fn trees_at_tight_settings() {
         let (n, m, t, b, bound) = pick(rng, &tight);
         Parameters { n, m, t, b, bound }
     });
+}
+
+#[test]
+fn trees_at_the_largest_settings() {
+    // N = 512 with the largest n, m and t, for an odd base and an even one.
+    let (mut rng, mut tally) =
+        (generator("trees_at_the_largest_settings"), Tally::new("trees_at_the_largest_settings"));
+    for (m, b, bound) in [(4096, 3, 22876792454961), (1024, 2, (1 << 30) - 1)] {
+        let p = Parameters { n: 64, m, t: 16, b, bound };
+        let left = Box::new(Tree::Leaf(witness(&mut rng, &p)));
+        let vector = witness(&mut rng, &second(&p, Fresh));
+        let tree = Tree::FoldFresh(left, vector, challenge(&mut rng, 512 * 16));
+        assert_eq!((p.columns(), check(&mut rng, &p, &tree)), (512, (1, 1)));
+        tally.case("yes");
+    }
+    tally.finish(&["yes"]);
 }

@@ -31,6 +31,19 @@ pub struct Case {
     pub dd: Vec<i64>,
     pub ss: Vec<i64>,
     pub c: Vec<u8>,
+    pub fresh: Fresh,
+}
+
+/// A fresh witness, its instance, and its message beside the first witness; S~, T~ and D~ have so many columns.
+pub struct Fresh {
+    pub columns: usize,
+    pub vector: Vec<i64>,
+    pub t2: Vec<u64>,
+    pub d2: Vec<i64>,
+    pub v: Vec<i64>,
+    pub tt: Vec<u64>,
+    pub dd: Vec<i64>,
+    pub ss: Vec<i64>,
 }
 
 /// The largest size that every entry of a witness may have at once.
@@ -61,5 +74,18 @@ pub fn case(p: [u64; 5]) -> Case {
     let (mut v, mut tt) = (vec![0; t * t], vec![0; n * columns]);
     let (mut dd, mut ss) = (vec![0; columns * columns], vec![0; m * columns]);
     assert_eq!(plain::message(p, &a, &s1, &s2, &mut v, &mut tt, &mut dd, &mut ss), 0);
-    Case { p, n, m, t, columns, a, s1, s2, t1, d1, t2, d2, v, tt, dd, ss, c }
+    // The first numbers of the second witness are as good a vector as any.
+    let fresh = fresh(&z, p, &a, &s1, &s2[..m]);
+    Case { p, n, m, t, columns, a, s1, s2, t1, d1, t2, d2, v, tt, dd, ss, c, fresh }
+}
+
+/// The fresh part of a case.
+fn fresh(z: &plain::Shape, p: [u64; 5], a: &[u64], s1: &[i64], vector: &[i64]) -> Fresh {
+    let (n, m, t, columns) = (z.n, z.m, z.t, z.k * z.t + z.k);
+    let (mut t2, mut d2) = (vec![0; n], vec![0]);
+    assert_eq!(plain::commit_fresh(p, a, vector, &mut t2, &mut d2), 0);
+    let (mut v, mut tt) = (vec![0; t], vec![0; n * columns]);
+    let (mut dd, mut ss) = (vec![0; columns * columns], vec![0; m * columns]);
+    assert_eq!(plain::message_fresh(p, a, s1, vector, &mut v, &mut tt, &mut dd, &mut ss), 0);
+    Fresh { columns, vector: vector.to_vec(), t2, d2, v, tt, dd, ss }
 }

@@ -1,6 +1,10 @@
 //! The six operations and their products as a careful Rust user writes them: loops over slices with iterators, rows in the
 //! order of memory, nothing tuned by hand. The speed table compiles this file twice, with `-O` and with `-O` for the
-//! processor at hand, and holds the static library against both.
+//! processor at hand, and holds the static library against both. `fresh` has the operations with a fresh witness.
+
+mod fresh;
+
+pub use fresh::*;
 
 /// What a setting's five numbers fix.
 pub struct Shape {
@@ -98,30 +102,52 @@ fn ternary(c: u8) -> i64 {
     }
 }
 
-/// s c, exactly: S' = S~ C.
-#[inline(never)]
-pub fn fold_small(s: &[i64], c: &[u8], columns: usize, t: usize, out: &mut [i64]) {
+/// s times the matrix of the values of c, exactly.
+fn fold_exactly<E>(s: &[i64], c: &[E], value: impl Fn(&E) -> i64, columns: usize, t: usize, out: &mut [i64]) {
     out.fill(0);
     for (row_s, row_out) in s.chunks_exact(columns).zip(out.chunks_exact_mut(t)) {
         for (x, row_c) in row_s.iter().zip(c.chunks_exact(t)) {
             for (o, v) in row_out.iter_mut().zip(row_c) {
-                *o += x * ternary(*v);
+                *o += x * value(v);
             }
         }
     }
 }
 
-/// x c modulo 2^64: T' = T~ C.
-#[inline(never)]
-pub fn fold_words(x: &[u64], c: &[u8], columns: usize, t: usize, out: &mut [u64]) {
+/// x times the matrix of the values of c, modulo 2^64.
+fn fold_wrapping<E>(x: &[u64], c: &[E], value: impl Fn(&E) -> i64, columns: usize, t: usize, out: &mut [u64]) {
     out.fill(0);
     for (row_x, row_out) in x.chunks_exact(columns).zip(out.chunks_exact_mut(t)) {
         for (x, row_c) in row_x.iter().zip(c.chunks_exact(t)) {
             for (o, v) in row_out.iter_mut().zip(row_c) {
-                *o = o.wrapping_add(x.wrapping_mul(ternary(*v) as u64));
+                *o = o.wrapping_add(x.wrapping_mul(value(v) as u64));
             }
         }
     }
+}
+
+/// The matrix of the values of c, transposed, times right, exactly.
+fn fold_transposed<E>(c: &[E], right: &[i64], value: impl Fn(&E) -> i64, t: usize, out: &mut [i64]) {
+    out.fill(0);
+    for (row_c, row_right) in c.chunks_exact(t).zip(right.chunks_exact(t)) {
+        for (v, row_out) in row_c.iter().zip(out.chunks_exact_mut(t)) {
+            for (o, y) in row_out.iter_mut().zip(row_right) {
+                *o += value(v) * y;
+            }
+        }
+    }
+}
+
+/// s c, exactly: S' = S~ C.
+#[inline(never)]
+pub fn fold_small(s: &[i64], c: &[u8], columns: usize, t: usize, out: &mut [i64]) {
+    fold_exactly(s, c, |v| ternary(*v), columns, t, out);
+}
+
+/// x c modulo 2^64: T' = T~ C.
+#[inline(never)]
+pub fn fold_words(x: &[u64], c: &[u8], columns: usize, t: usize, out: &mut [u64]) {
+    fold_wrapping(x, c, |v| ternary(*v), columns, t, out);
 }
 
 /// c transposed times d times c, exactly: D' = C-transposed D~ C.
@@ -129,14 +155,7 @@ pub fn fold_words(x: &[u64], c: &[u8], columns: usize, t: usize, out: &mut [u64]
 pub fn fold_products(d: &[i64], c: &[u8], columns: usize, t: usize, out: &mut [i64]) {
     let mut right = vec![0; columns * t];
     fold_small(d, c, columns, t, &mut right);
-    out.fill(0);
-    for (row_c, row_right) in c.chunks_exact(t).zip(right.chunks_exact(t)) {
-        for (v, row_out) in row_c.iter().zip(out.chunks_exact_mut(t)) {
-            for (o, y) in row_out.iter_mut().zip(row_right) {
-                *o += ternary(*v) * y;
-            }
-        }
-    }
+    fold_transposed(c, &right, |v| ternary(*v), t, out);
 }
 
 /// Writes the digits of x in balanced base b, lowest first.
@@ -154,32 +173,35 @@ fn write_digits(x: i64, b: u64, out: &mut [i64]) {
     }
 }
 
-/// The digit witness S~ of [s1 s2].
+/// The digit witness S~ of [s1 s2], where s2 has so many columns.
 #[inline(never)]
-pub fn digit_witness(z: &Shape, s1: &[i64], s2: &[i64], out: &mut [i64]) {
-    let rows = s1.chunks_exact(z.t).zip(s2.chunks_exact(z.t));
-    for ((left, right), row) in rows.zip(out.chunks_exact_mut(z.columns)) {
+pub fn digit_witness(z: &Shape, s1: &[i64], s2: &[i64], columns: usize, out: &mut [i64]) {
+    let rows = s1.chunks_exact(z.t).zip(s2.chunks_exact(columns));
+    for ((left, right), row) in rows.zip(out.chunks_exact_mut(z.k * (z.t + columns))) {
         for (x, digits) in left.iter().chain(right).zip(row.chunks_exact_mut(z.k)) {
             write_digits(*x, z.b, digits);
         }
     }
 }
 
-/// [t1 t2] and [d1 v; v-transposed d2].
-fn write_joined(z: &Shape, t1: &[u64], d1: &[i64], t2: &[u64], d2: &[i64], v: &[i64], t: &mut [u64], d: &mut [i64]) {
-    let rows = t1.chunks_exact(z.t).zip(t2.chunks_exact(z.t));
-    for ((left, right), row) in rows.zip(t.chunks_exact_mut(2 * z.t)) {
+/// [t1 t2] and [d1 v; v-transposed d2], where t2, d2 and v have so many columns.
+fn write_joined(
+    z: &Shape, t1: &[u64], d1: &[i64], t2: &[u64], d2: &[i64], v: &[i64], columns: usize, t: &mut [u64], d: &mut [i64],
+) {
+    let wide = z.t + columns;
+    let rows = t1.chunks_exact(z.t).zip(t2.chunks_exact(columns));
+    for ((left, right), row) in rows.zip(t.chunks_exact_mut(wide)) {
         row[..z.t].copy_from_slice(left);
         row[z.t..].copy_from_slice(right);
     }
-    let (upper, lower) = d.split_at_mut(2 * z.t * z.t);
-    let rows = d1.chunks_exact(z.t).zip(v.chunks_exact(z.t));
-    for ((left, right), row) in rows.zip(upper.chunks_exact_mut(2 * z.t)) {
+    let (upper, lower) = d.split_at_mut(wide * z.t);
+    let rows = d1.chunks_exact(z.t).zip(v.chunks_exact(columns));
+    for ((left, right), row) in rows.zip(upper.chunks_exact_mut(wide)) {
         row[..z.t].copy_from_slice(left);
         row[z.t..].copy_from_slice(right);
     }
-    for (i, (right, row)) in d2.chunks_exact(z.t).zip(lower.chunks_exact_mut(2 * z.t)).enumerate() {
-        for (o, x) in row.iter_mut().zip(v.iter().skip(i).step_by(z.t)) {
+    for (i, (right, row)) in d2.chunks_exact(columns).zip(lower.chunks_exact_mut(wide)).enumerate() {
+        for (o, x) in row.iter_mut().zip(v.iter().skip(i).step_by(columns)) {
             *o = *x;
         }
         row[z.t..].copy_from_slice(right);
@@ -222,7 +244,7 @@ pub fn message(
         return 8;
     }
     products(s1, s2, z.t, v);
-    digit_witness(&z, s1, s2, ss);
+    digit_witness(&z, s1, s2, z.t, ss);
     commitment(a, ss, z.m, z.columns, tt);
     products(ss, ss, z.columns, dd);
     0
@@ -262,7 +284,7 @@ pub fn join(
     if !first || !second || t.len() != 2 * z.n * z.t || d.len() != 4 * z.t * z.t {
         return 7;
     }
-    write_joined(&z, t1, d1, t2, d2, v, t, d);
+    write_joined(&z, t1, d1, t2, d2, v, z.t, t, d);
     0
 }
 
@@ -276,9 +298,8 @@ fn recomposed(z: &Shape, x: &[i64]) -> Vec<i64> {
     x.chunks_exact(z.k).map(|block| block.iter().zip(&z.powers).map(|(x, p)| x * *p as i64).sum()).collect()
 }
 
-/// Whether G-transposed dd G is the joined D.
-fn norm_holds(z: &Shape, dd: &[i64], joined: &[i64]) -> bool {
-    let wide = 2 * z.t;
+/// Whether G-transposed dd G is the joined D, which has so many columns.
+fn norm_holds(z: &Shape, dd: &[i64], joined: &[i64], wide: usize) -> bool {
     let right = recomposed(z, dd);
     right.chunks_exact(z.k * wide).zip(joined.chunks_exact(wide)).all(|(rows, expected)| {
         let mut sums = vec![0; wide];
@@ -299,7 +320,27 @@ fn commitment_holds(z: &Shape, tt: &[u64], joined: &[u64]) -> bool {
     })
 }
 
-/// Verdict: 0 for yes, 102 for long, 100 for norm, 101 for commitment, or the refusal.
+/// The verdict's answer: 0 for yes, 102 for long, 100 for norm, 101 for commitment; t2, d2 and v have so many columns.
+fn judged(
+    z: &Shape, t1: &[u64], d1: &[i64], t2: &[u64], d2: &[i64], v: &[i64], columns: usize, tt: &[u64], dd: &[i64],
+) -> u8 {
+    if !diagonal_within(d1, z.t, z.bound) || !diagonal_within(d2, columns, z.bound) {
+        return 102;
+    }
+    let wide = z.t + columns;
+    let mut joined_t = vec![0; z.n * wide];
+    let mut joined_d = vec![0; wide * wide];
+    write_joined(z, t1, d1, t2, d2, v, columns, &mut joined_t, &mut joined_d);
+    if !norm_holds(z, dd, &joined_d, wide) {
+        return 100;
+    }
+    if !commitment_holds(z, tt, &joined_t) {
+        return 101;
+    }
+    0
+}
+
+/// Verdict: its answer, or the refusal.
 #[inline(never)]
 pub fn verify(
     p: [u64; 5], t1: &[u64], d1: &[i64], t2: &[u64], d2: &[i64], v: &[i64], tt: &[u64], dd: &[i64], c: &[u8],
@@ -320,21 +361,12 @@ pub fn verify(
     if dd.iter().any(|x| x.unsigned_abs() > z.limit) {
         return 10;
     }
-    if !diagonal_within(d1, z.t, z.bound) || !diagonal_within(d2, z.t, z.bound) {
-        return 102;
+    let answer = judged(&z, t1, d1, t2, d2, v, z.t, tt, dd);
+    if answer == 0 {
+        fold_words(tt, c, z.columns, z.t, t);
+        fold_products(dd, c, z.columns, z.t, d);
     }
-    let mut joined_t = vec![0; 2 * z.n * z.t];
-    let mut joined_d = vec![0; 4 * z.t * z.t];
-    write_joined(&z, t1, d1, t2, d2, v, &mut joined_t, &mut joined_d);
-    if !norm_holds(&z, dd, &joined_d) {
-        return 100;
-    }
-    if !commitment_holds(&z, tt, &joined_t) {
-        return 101;
-    }
-    fold_words(tt, c, z.columns, z.t, t);
-    fold_products(dd, c, z.columns, z.t, d);
-    0
+    answer
 }
 
 /// Relation test: 0 for member, 102 for long, 103 for products, 101 for commitment, or the refusal.

@@ -42,66 +42,60 @@ pub fn s(s: &[i64], c: &[u8], m: usize, columns: usize, t: usize, out: &mut [i64
     unsafe { product_s(s.as_ptr(), s.len(), c.as_ptr(), c.len(), m, columns, t, out.as_mut_ptr(), out.len()) }
 }
 
-pub fn commit([n, m, t, b, bound]: [u64; 5], a: &[u64], s: &[i64], t_out: &mut [u64], d_out: &mut [i64]) -> u8 {
-    unsafe {
-        lova_commit(
-            n, m, t, b, bound, a.as_ptr(), a.len(), s.as_ptr(), s.len(),
-            t_out.as_mut_ptr(), t_out.len(), d_out.as_mut_ptr(), d_out.len(),
-        )
-    }
+pub fn commit(p: [u64; 5], a: &[u64], s: &[i64], t: &mut [u64], d: &mut [i64]) -> u8 {
+    call!(lova_commit, p, [a, s], [t, d])
+}
+
+pub fn commit_fresh(p: [u64; 5], a: &[u64], vector: &[i64], t: &mut [u64], d: &mut [i64]) -> u8 {
+    call!(lova_commit_fresh, p, [a, vector], [t, d])
 }
 
 pub fn message(
-    [n, m, t, b, bound]: [u64; 5], a: &[u64], s1: &[i64], s2: &[i64],
-    v: &mut [i64], tt: &mut [u64], dd: &mut [i64], ss: &mut [i64],
+    p: [u64; 5], a: &[u64], s1: &[i64], s2: &[i64], v: &mut [i64], tt: &mut [u64], dd: &mut [i64], ss: &mut [i64],
 ) -> u8 {
-    unsafe {
-        lova_message(
-            n, m, t, b, bound, a.as_ptr(), a.len(), s1.as_ptr(), s1.len(), s2.as_ptr(), s2.len(),
-            v.as_mut_ptr(), v.len(), tt.as_mut_ptr(), tt.len(), dd.as_mut_ptr(), dd.len(), ss.as_mut_ptr(), ss.len(),
-        )
-    }
+    call!(lova_message, p, [a, s1, s2], [v, tt, dd, ss])
 }
 
-pub fn fold_witness([n, m, t, b, bound]: [u64; 5], ss: &[i64], c: &[u8], s: &mut [i64]) -> u8 {
-    unsafe {
-        lova_fold_witness(
-            n, m, t, b, bound, ss.as_ptr(), ss.len(), c.as_ptr(), c.len(), s.as_mut_ptr(), s.len(),
-        )
-    }
+pub fn message_fresh(
+    p: [u64; 5], a: &[u64], s1: &[i64], vector: &[i64], v: &mut [i64], tt: &mut [u64], dd: &mut [i64], ss: &mut [i64],
+) -> u8 {
+    call!(lova_message_fresh, p, [a, s1, vector], [v, tt, dd, ss])
+}
+
+pub fn fold_witness(p: [u64; 5], ss: &[i64], c: &[u8], s: &mut [i64]) -> u8 {
+    call!(lova_fold_witness, p, [ss, c], [s])
+}
+
+pub fn fold_witness_fresh(p: [u64; 5], ss: &[i64], c: &[u8], s: &mut [i64]) -> u8 {
+    call!(lova_fold_witness_fresh, p, [ss, c], [s])
 }
 
 pub fn join(
-    [n, m, t, b, bound]: [u64; 5], t1: &[u64], d1: &[i64], t2: &[u64], d2: &[i64], v: &[i64],
-    t_out: &mut [u64], d_out: &mut [i64],
+    p: [u64; 5], t1: &[u64], d1: &[i64], t2: &[u64], d2: &[i64], v: &[i64], t: &mut [u64], d: &mut [i64],
 ) -> u8 {
-    unsafe {
-        lova_join(
-            n, m, t, b, bound, t1.as_ptr(), t1.len(), d1.as_ptr(), d1.len(), t2.as_ptr(), t2.len(),
-            d2.as_ptr(), d2.len(), v.as_ptr(), v.len(),
-            t_out.as_mut_ptr(), t_out.len(), d_out.as_mut_ptr(), d_out.len(),
-        )
-    }
+    call!(lova_join, p, [t1, d1, t2, d2, v], [t, d])
+}
+
+pub fn join_fresh(
+    p: [u64; 5], t1: &[u64], d1: &[i64], t2: &[u64], d2: &[i64], v: &[i64], t: &mut [u64], d: &mut [i64],
+) -> u8 {
+    call!(lova_join_fresh, p, [t1, d1, t2, d2, v], [t, d])
 }
 
 pub fn verify(
-    [n, m, t, b, bound]: [u64; 5], t1: &[u64], d1: &[i64], t2: &[u64], d2: &[i64], v: &[i64],
-    tt: &[u64], dd: &[i64], c: &[u8], t_out: &mut [u64], d_out: &mut [i64],
+    p: [u64; 5], t1: &[u64], d1: &[i64], t2: &[u64], d2: &[i64], v: &[i64], tt: &[u64], dd: &[i64], c: &[u8],
+    t: &mut [u64], d: &mut [i64],
 ) -> u8 {
-    unsafe {
-        lova_verify(
-            n, m, t, b, bound, t1.as_ptr(), t1.len(), d1.as_ptr(), d1.len(), t2.as_ptr(), t2.len(),
-            d2.as_ptr(), d2.len(), v.as_ptr(), v.len(), tt.as_ptr(), tt.len(), dd.as_ptr(), dd.len(),
-            c.as_ptr(), c.len(), t_out.as_mut_ptr(), t_out.len(), d_out.as_mut_ptr(), d_out.len(),
-        )
-    }
+    call!(lova_verify, p, [t1, d1, t2, d2, v, tt, dd, c], [t, d])
 }
 
-pub fn test_relation([n, m, t, b, bound]: [u64; 5], a: &[u64], t_in: &[u64], d_in: &[i64], s: &[i64]) -> u8 {
-    unsafe {
-        lova_test_relation(
-            n, m, t, b, bound, a.as_ptr(), a.len(), t_in.as_ptr(), t_in.len(), d_in.as_ptr(), d_in.len(),
-            s.as_ptr(), s.len(),
-        )
-    }
+pub fn verify_fresh(
+    p: [u64; 5], t1: &[u64], d1: &[i64], t2: &[u64], d2: &[i64], v: &[i64], tt: &[u64], dd: &[i64], c: &[u8],
+    t: &mut [u64], d: &mut [i64],
+) -> u8 {
+    call!(lova_verify_fresh, p, [t1, d1, t2, d2, v, tt, dd, c], [t, d])
+}
+
+pub fn test_relation(p: [u64; 5], a: &[u64], t: &[u64], d: &[i64], s: &[i64]) -> u8 {
+    call!(lova_test_relation, p, [a, t, d, s], [])
 }

@@ -1,7 +1,8 @@
 //! The static library's speed beside idiomatic Rust's: ratios of medians from one run.
 //!
-//! Every operation, and the four costly products alone, on the same inputs, with outputs asserted equal. The variants take
-//! turns, so that what else the machine does falls on all of them.
+//! Every operation, in both profiles, and the four costly products alone, on the same inputs, with outputs asserted equal.
+//! The variants take turns, so that what else the machine does falls on all of them; a fresh call also takes turns with the
+//! library's general one.
 
 mod cases;
 mod library;
@@ -9,7 +10,7 @@ mod rows;
 mod timing;
 
 use cases::case;
-use rows::{rows, Row};
+use rows::{fresh_rows, rows, Row};
 
 /// The settings of the first table: the house list, then large ones. The bound of the last is 9^14: k = 16 and N = 512, the
 /// largest N there is, with the largest n, m and t.
@@ -48,15 +49,20 @@ fn shown(nanoseconds: f64) -> String {
     }
 }
 
-/// The first table: each row's time, and its ratios to idiomatic Rust with -O and for this processor.
+/// The first table: each row's time, and its ratios to idiomatic Rust with -O and for this processor; a fresh call's also to
+/// the library's general one.
 fn print_ratios() {
     for (name, p) in SETTINGS {
         let z = case(p);
         println!("{name}: n = {}, m = {}, t = {}, b = {}, B = {}, N = {}", z.n, z.m, z.t, p[3], p[4], z.columns);
-        println!("  {:<16}{:>12}{:>12}{:>12}{:>14}", "", "Lova", "Rust -O", "ratio", "ratio native");
-        for Row { name, times: [lova, plain, native] } in rows(&z) {
+        println!(
+            "  {:<16}{:>12}{:>12}{:>12}{:>14}{:>12}",
+            "", "Lova", "Rust -O", "ratio", "ratio native", "to general"
+        );
+        for Row { name, times: [lova, plain, native], general } in rows(&z).into_iter().chain(fresh_rows(&z)) {
             let (time, beside) = (shown(lova), shown(plain));
-            println!("  {name:<16}{time:>12}{beside:>12}{:>12.3}{:>14.3}", lova / plain, lova / native);
+            let to_general = general.map_or(String::new(), |general| format!("{:.3}", lova / general));
+            println!("  {name:<16}{time:>12}{beside:>12}{:>12.3}{:>14.3}{to_general:>12}", lova / plain, lova / native);
         }
     }
 }

@@ -1,4 +1,4 @@
-//! What is timed: the four costly products alone, and the six operations.
+//! What is timed: the four costly products alone, the six operations, and those of a fold with a fresh witness.
 
 use crate::cases::Case;
 use crate::library;
@@ -6,10 +6,12 @@ use crate::timing::medians;
 use idiomatic_native as native;
 use idiomatic_plain as plain;
 
-/// A row of the table: nanoseconds of the library, of idiomatic Rust with -O, and of the same for this processor.
+/// A row of the table: nanoseconds of the library, of idiomatic Rust with -O, and of the same for this processor; for a
+/// fresh call, also those of the library's general one.
 pub struct Row {
     pub name: &'static str,
     pub times: [f64; 3],
+    pub general: Option<f64>,
 }
 
 /// What a call writes: its code, a matrix of words and up to three of whole numbers.
@@ -29,19 +31,32 @@ impl Out {
 
 type Call = fn(&Case, &mut Out);
 
-/// Times the library, idiomatic Rust with -O and the same for this processor; what they wrote must be equal.
-fn row(name: &'static str, z: &Case, out: Out, calls: [Call; 3]) -> Row {
-    let mut outs = [out.clone(), out.clone(), out];
-    let [first, second, third] = &mut outs;
-    let [library, plain, native] = calls;
-    let times = medians(&mut [
-        Box::new(|| library(z, first)),
-        Box::new(|| plain(z, second)),
-        Box::new(|| native(z, third)),
-    ]);
-    assert_eq!(outs[0].code, 0, "{name} is done, yes or member");
+/// What a row times: a call by the library, by idiomatic Rust with -O and by the same for this processor, and its outputs.
+struct Work {
+    name: &'static str,
+    out: Out,
+    calls: [Call; 3],
+}
+
+/// Times a work's calls, which take turns with one another and with the library's general call; what the three variants
+/// wrote must be equal.
+fn row(z: &Case, work: Work, general: Option<Work>) -> Row {
+    let Work { name, out, calls } = work;
+    let mut outs = vec![out; 3];
+    let mut calls = calls.to_vec();
+    if let Some(general) = general {
+        outs.push(general.out);
+        calls.push(general.calls[0]);
+    }
+    let mut turns: Vec<Box<dyn FnMut() + '_>> = Vec::new();
+    for (call, out) in calls.into_iter().zip(&mut outs) {
+        turns.push(Box::new(move || call(z, out)));
+    }
+    let times = medians(&mut turns);
+    drop(turns);
+    assert!(outs.iter().all(|out| out.code == 0), "{name} is done, yes or member");
     assert!(outs[0] == outs[1] && outs[1] == outs[2], "{name}: the outputs are equal");
-    Row { name, times }
+    Row { name, times: [times[0], times[1], times[2]], general: times.get(3).copied() }
 }
 
 /// The three variants of a call `$call(z, o)`, which is written once for a module `$m`.
@@ -57,7 +72,7 @@ macro_rules! variants {
 }
 
 /// The four costly products alone.
-fn products(z: &Case) -> Vec<Row> {
+fn products(z: &Case) -> [Work; 4] {
     let dd: [Call; 3] = [
         |z, o| library::dd(&z.ss, z.m, z.columns, &mut o.whole[0]),
         |z, o| plain::products(&z.ss, &z.ss, z.columns, &mut o.whole[0]),
@@ -78,16 +93,16 @@ fn products(z: &Case) -> Vec<Row> {
         |z, o| plain::fold_small(&z.ss, &z.c, z.columns, z.t, &mut o.whole[0]),
         |z, o| native::fold_small(&z.ss, &z.c, z.columns, z.t, &mut o.whole[0]),
     ];
-    vec![
-        row("D~", z, Out::of(0, [z.columns * z.columns, 0, 0]), dd),
-        row("T~", z, Out::of(z.n * z.columns, [0, 0, 0]), tt),
-        row("D'", z, Out::of(0, [z.t * z.t, 0, 0]), d),
-        row("S'", z, Out::of(0, [z.m * z.t, 0, 0]), s),
+    [
+        Work { name: "D~", out: Out::of(0, [z.columns * z.columns, 0, 0]), calls: dd },
+        Work { name: "T~", out: Out::of(z.n * z.columns, [0, 0, 0]), calls: tt },
+        Work { name: "D'", out: Out::of(0, [z.t * z.t, 0, 0]), calls: d },
+        Work { name: "S'", out: Out::of(0, [z.m * z.t, 0, 0]), calls: s },
     ]
 }
 
 /// The six operations.
-fn operations(z: &Case) -> Vec<Row> {
+fn operations(z: &Case) -> [Work; 6] {
     let instance = || Out::of(z.n * z.t, [z.t * z.t, 0, 0]);
     let sent = Out::of(z.n * z.columns, [z.t * z.t, z.columns * z.columns, z.m * z.columns]);
     let message = variants!(m, z, o, {
@@ -105,19 +120,58 @@ fn operations(z: &Case) -> Vec<Row> {
         let (t, d) = (&mut o.words, &mut o.whole[0]);
         o.code = m::join(z.p, &z.t1, &z.d1, &z.t2, &z.d2, &z.v, t, d)
     });
-    vec![
-        row("message", z, sent, message),
-        row("verdict", z, instance(), verify),
-        row("folded witness", z, Out::of(0, [z.m * z.t, 0, 0]), fold),
-        row("commit", z, instance(), commit),
-        row("relation test", z, Out::of(0, [0, 0, 0]), test),
-        row("join", z, Out::of(2 * z.n * z.t, [4 * z.t * z.t, 0, 0]), join),
+    [
+        Work { name: "message", out: sent, calls: message },
+        Work { name: "verdict", out: instance(), calls: verify },
+        Work { name: "folded witness", out: Out::of(0, [z.m * z.t, 0, 0]), calls: fold },
+        Work { name: "commit", out: instance(), calls: commit },
+        Work { name: RELATION_TEST, out: Out::of(0, [0, 0, 0]), calls: test },
+        Work { name: "join", out: Out::of(2 * z.n * z.t, [4 * z.t * z.t, 0, 0]), calls: join },
     ]
 }
 
-/// All rows of one setting.
+/// The one operation that has no fresh form.
+const RELATION_TEST: &str = "relation test";
+
+/// The operations with a fresh witness, in the order of the general ones.
+fn fresh_operations(z: &Case) -> [Work; 5] {
+    let columns = z.fresh.columns;
+    let message = variants!(m, z, o, {
+        let [v, dd, ss] = &mut o.whole;
+        o.code = m::message_fresh(z.p, &z.a, &z.s1, &z.fresh.vector, v, &mut o.words, dd, ss)
+    });
+    let verify = variants!(m, z, o, {
+        let (x, t, d) = (&z.fresh, &mut o.words, &mut o.whole[0]);
+        o.code = m::verify_fresh(z.p, &z.t1, &z.d1, &x.t2, &x.d2, &x.v, &x.tt, &x.dd, &z.c, t, d)
+    });
+    let fold = variants!(m, z, o, o.code = m::fold_witness_fresh(z.p, &z.fresh.ss, &z.c, &mut o.whole[0]));
+    let commit = variants!(m, z, o, {
+        o.code = m::commit_fresh(z.p, &z.a, &z.fresh.vector, &mut o.words, &mut o.whole[0])
+    });
+    let join = variants!(m, z, o, {
+        let (x, t, d) = (&z.fresh, &mut o.words, &mut o.whole[0]);
+        o.code = m::join_fresh(z.p, &z.t1, &z.d1, &x.t2, &x.d2, &x.v, t, d)
+    });
+    let sent = Out::of(z.n * columns, [z.t, columns * columns, z.m * columns]);
+    [
+        Work { name: "fresh message", out: sent, calls: message },
+        Work { name: "fresh verdict", out: Out::of(z.n * z.t, [z.t * z.t, 0, 0]), calls: verify },
+        Work { name: "fresh witness", out: Out::of(0, [z.m * z.t, 0, 0]), calls: fold },
+        Work { name: "fresh commit", out: Out::of(z.n, [1, 0, 0]), calls: commit },
+        Work { name: "fresh join", out: Out::of(2 * z.n * z.t, [4 * z.t * z.t, 0, 0]), calls: join },
+    ]
+}
+
+/// The rows of one setting in the general form.
 pub fn rows(z: &Case) -> Vec<Row> {
-    let mut all = products(z);
-    all.extend(operations(z));
-    all
+    products(z).into_iter().chain(operations(z)).map(|work| row(z, work, None)).collect()
+}
+
+/// The rows of one setting with a fresh witness; where t is 1 both forms are the same.
+pub fn fresh_rows(z: &Case) -> Vec<Row> {
+    if z.t == 1 {
+        return Vec::new();
+    }
+    let general = operations(z).into_iter().filter(|work| work.name != RELATION_TEST);
+    fresh_operations(z).into_iter().zip(general).map(|(fresh, general)| row(z, fresh, Some(general))).collect()
 }

@@ -22,18 +22,17 @@ fn median(mut times: Vec<f64>) -> f64 {
 }
 
 /// The median time of each call, in nanoseconds; the calls take turns, each round from another one on.
-pub fn medians<const K: usize>(calls: &mut [Box<dyn FnMut() + '_>; K]) -> [f64; K] {
+pub fn medians(calls: &mut [Box<dyn FnMut() + '_>]) -> Vec<f64> {
     let first: Vec<f64> = calls.iter_mut().map(|call| batch(call, 3)).collect();
     let counts: Vec<usize> = first.iter().map(|time| (BATCH / time).ceil().max(1.0) as usize).collect();
     let round: f64 = first.iter().zip(&counts).map(|(time, count)| time * *count as f64).sum();
     let rounds = ((ROW / round) as usize).clamp(5, 301);
-    let mut times = vec![Vec::new(); K];
+    let mut times = vec![Vec::new(); calls.len()];
     for r in 0..rounds {
-        for turn in 0..K {
-            let which = (r + turn) % K;
+        for turn in 0..calls.len() {
+            let which = (r + turn) % calls.len();
             times[which].push(batch(&mut calls[which], counts[which]));
         }
     }
-    let mut medians = times.into_iter().map(median);
-    std::array::from_fn(|_| medians.next().unwrap())
+    times.into_iter().map(median).collect()
 }

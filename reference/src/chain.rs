@@ -1,6 +1,6 @@
 //! The chain program `foldchain`.
 
-use crate::operations::relation;
+use crate::operations::{relation, Profile};
 use crate::settings::{refusal, Parameters};
 use crate::tree::{fold, leaf, Node};
 
@@ -116,7 +116,7 @@ impl Run {
     /// Take a witness: 13, then 8; print its instance.
     fn leaf(&mut self, fields: &[&[u8]]) -> Result<(), u32> {
         let s = numbers(fields, self.p.m * self.p.t, signed)?;
-        let node = leaf(&self.p, &self.a, &s)?;
+        let node = leaf(&self.p, Profile::General, &self.a, &s)?;
         self.leaves += 1;
         let head = vec!["leaf".to_string(), self.leaves.to_string()];
         self.print(&[head, texts(&node.t), texts(&node.d)].concat());
@@ -133,7 +133,7 @@ impl Run {
     /// Take a challenge: fold the accumulated node with the newest leaf and print the fold.
     fn challenge(&mut self, fields: &[&[u8]]) -> Result<(), u32> {
         let c = numbers(fields, self.p.columns() as u64 * self.p.t, challenge_byte)?;
-        let (answer, node) = fold(&self.p, &self.a, &self.accumulated, &self.newest, &c)?;
+        let (answer, node) = fold(&self.p, Profile::General, &self.a, &self.accumulated, &self.newest, &c)?;
         self.folds += 1;
         let head = vec!["fold".to_string(), self.folds.to_string(), answer.word()];
         self.print(&[head, texts(&node.t), texts(&node.d)].concat());

@@ -37,6 +37,36 @@ pub fn beside<T: Copy>(left: &[T], right: &[T], rows: usize, columns: usize) -> 
     out
 }
 
+/// The matrix in which the columns from `first` on stand so many times, all of them after all of them.
+pub fn repeated<T: Copy>(a: &[T], columns: usize, first: usize, times: usize) -> Vec<T> {
+    let mut out = Vec::new();
+    for row in a.chunks_exact(columns) {
+        out.extend_from_slice(&row[..first]);
+        for _ in 0..times {
+            out.extend_from_slice(&row[first..]);
+        }
+    }
+    out
+}
+
+/// A square matrix with its columns from `first` on repeated, and its rows from `first` on as well.
+pub fn repeated_square<T: Copy>(a: &[T], columns: usize, first: usize, times: usize) -> Vec<T> {
+    let wide = repeated(a, columns, first, times);
+    let row = wide.len() / columns;
+    // All rows are one row here, so that whole rows are repeated.
+    repeated(&wide, wide.len(), first * row, times)
+}
+
+/// The first columns of a matrix.
+pub fn cut<T: Copy>(a: &[T], columns: usize, kept: usize) -> Vec<T> {
+    a.chunks_exact(columns).flat_map(|row| row[..kept].to_vec()).collect()
+}
+
+/// The first rows and columns of a square matrix.
+pub fn cut_square<T: Copy>(a: &[T], columns: usize, kept: usize) -> Vec<T> {
+    cut(&a[..kept * columns], columns, kept)
+}
+
 /// The product of a rows by inner and an inner by columns matrix in whole numbers.
 pub fn product(a: &[i128], b: &[i128], rows: usize, inner: usize, columns: usize) -> Vec<i128> {
     let mut out = vec![0; rows * columns];

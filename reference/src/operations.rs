@@ -1,8 +1,39 @@
 //! The operations of one fold, on lent slices.
+//!
+//! A fresh second witness is one vector that stands for t equal columns. The operations of a fold take a profile, and
+//! go by request 2's own sentence: all that is fresh is repeated t times, the general fold is made, and what is
+//! written is cut down to the fresh form.
 
 use crate::digits::digit_matrix;
 use crate::matrices::*;
 use crate::settings::{above, refusal, shape, Parameters, Shape};
+
+/// What the second witness of a fold is: a matrix of t columns, or one vector.
+#[derive(Clone, Copy, Debug, PartialEq, Eq)]
+pub enum Profile {
+    General,
+    Fresh,
+}
+
+impl Profile {
+    /// Columns of the second witness.
+    pub fn right(self, z: &Shape) -> usize {
+        match self {
+            Profile::General => z.t,
+            Profile::Fresh => 1,
+        }
+    }
+
+    /// How often the second witness is repeated to have t columns.
+    pub fn times(self, z: &Shape) -> usize {
+        z.t / self.right(z)
+    }
+
+    /// Columns of S~, T~ and D~: N, or kt + k.
+    pub fn columns(self, z: &Shape) -> usize {
+        z.k * z.t + z.k * self.right(z)
+    }
+}
 
 /// What an operation answers; outputs are written on `Done` and `Yes` alone.
 #[derive(Clone, Copy, Debug, PartialEq, Eq)]
@@ -51,30 +82,31 @@ fn has_long_column(z: &Shape, s: &[i64]) -> bool {
     (0..z.t).any(|j| above(squared_length(s, z.m, z.t, j), z.bound as u128))
 }
 
-/// Whether a diagonal entry of D exceeds B.
-fn has_long_diagonal(z: &Shape, d: &[i64]) -> bool {
-    (0..z.t).any(|i| i128::from(d[i * z.t + i]) > i128::from(z.bound))
-}
-
-/// Joined T = [T1 T2] and D = [D1 V; V-transposed D2].
-fn joined(z: &Shape, t1: &[u64], d1: &[i64], t2: &[u64], d2: &[i64], v: &[i64]) -> (Vec<u64>, Vec<i64>) {
-    let mut d = beside(d1, v, z.t, z.t);
-    d.extend(beside(&transposed(v, z.t, z.t), d2, z.t, z.t));
-    (beside(t1, t2, z.n, z.t), d)
+/// Joined T = [T1 T2] and D = [D1 V; V-transposed D2], with T2, D2 and V in the general form.
+fn joined(
+    z: &Shape, profile: Profile, t1: &[u64], d1: &[i64], t2: &[u64], d2: &[i64], v: &[i64],
+) -> (Vec<u64>, Vec<i64>) {
+    let (right, times) = (profile.right(z), profile.times(z));
+    let (t2, d2) = (repeated(t2, right, 0, times), repeated_square(d2, right, 0, times));
+    let v = repeated(v, right, 0, times);
+    let mut d = beside(d1, &v, z.t, z.t);
+    d.extend(beside(&transposed(&v, z.t, z.t), &d2, z.t, z.t));
+    (beside(t1, &t2, z.n, z.t), d)
 }
 
 /// Commit: A, S to T = AS modulo 2^64 and D = S-transposed S.
-pub fn commit(p: &Parameters, a: &[u64], s: &[i64], t_out: &mut [u64], d_out: &mut [i64]) -> Answer {
+pub fn commit(p: &Parameters, profile: Profile, a: &[u64], s: &[i64], t_out: &mut [u64], d_out: &mut [i64]) -> Answer {
     let Ok(z) = shape(p) else { return Answer::Refused(refusal(p)) };
-    let (n, m, t) = (z.n, z.m, z.t);
-    if misfit(&[(a.len(), n * m), (s.len(), m * t), (t_out.len(), n * t), (d_out.len(), t * t)]) {
+    let (n, m, t, right) = (z.n, z.m, z.t, profile.right(&z));
+    if misfit(&[(a.len(), n * m), (s.len(), m * right), (t_out.len(), n * right), (d_out.len(), right * right)]) {
         return Answer::Refused(7);
     }
-    if has_long_column(&z, s) {
+    let s = repeated(s, right, 0, profile.times(&z));
+    if has_long_column(&z, &s) {
         return Answer::Refused(8);
     }
-    t_out.copy_from_slice(&wrapping_product(a, &wrapped(s), n, m, t));
-    d_out.copy_from_slice(&words(&inner_products(s, s, m, t)));
+    t_out.copy_from_slice(&cut(&wrapping_product(a, &wrapped(&s), n, m, t), t, right));
+    d_out.copy_from_slice(&cut_square(&words(&inner_products(&s, &s, m, t)), t, right));
     Answer::Done
 }
 
@@ -98,16 +130,16 @@ pub fn relation(p: &Parameters, a: &[u64], t_in: &[u64], d_in: &[i64], s: &[i64]
 
 /// Join: two instances and V to the joined T, n by 2t, and D, 2t by 2t.
 pub fn join(
-    p: &Parameters, t1: &[u64], d1: &[i64], t2: &[u64], d2: &[i64], v: &[i64],
+    p: &Parameters, profile: Profile, t1: &[u64], d1: &[i64], t2: &[u64], d2: &[i64], v: &[i64],
     t_out: &mut [u64], d_out: &mut [i64],
 ) -> Answer {
     let Ok(z) = shape(p) else { return Answer::Refused(refusal(p)) };
-    let (n, t) = (z.n, z.t);
-    let instances = [(t1.len(), n * t), (d1.len(), t * t), (t2.len(), n * t), (d2.len(), t * t)];
-    if misfit(&instances) || misfit(&[(v.len(), t * t), (t_out.len(), 2 * n * t), (d_out.len(), 4 * t * t)]) {
+    let (n, t, right) = (z.n, z.t, profile.right(&z));
+    let instances = [(t1.len(), n * t), (d1.len(), t * t), (t2.len(), n * right), (d2.len(), right * right)];
+    if misfit(&instances) || misfit(&[(v.len(), t * right), (t_out.len(), 2 * n * t), (d_out.len(), 4 * t * t)]) {
         return Answer::Refused(7);
     }
-    let (joined_t, joined_d) = joined(&z, t1, d1, t2, d2, v);
+    let (joined_t, joined_d) = joined(&z, profile, t1, d1, t2, d2, v);
     t_out.copy_from_slice(&joined_t);
     d_out.copy_from_slice(&joined_d);
     Answer::Done
@@ -115,38 +147,58 @@ pub fn join(
 
 /// Message: A, S1, S2 to V = S1-transposed S2, T~ = A S~, D~ = S~-transposed S~ and the digits S~.
 pub fn message(
-    p: &Parameters, a: &[u64], s1: &[i64], s2: &[i64],
+    p: &Parameters, profile: Profile, a: &[u64], s1: &[i64], s2: &[i64],
     v_out: &mut [i64], tt_out: &mut [u64], dd_out: &mut [i64], ss_out: &mut [i64],
 ) -> Answer {
     let Ok(z) = shape(p) else { return Answer::Refused(refusal(p)) };
-    let (n, m, t, columns) = (z.n, z.m, z.t, z.columns);
-    let inputs = [(a.len(), n * m), (s1.len(), m * t), (s2.len(), m * t), (v_out.len(), t * t)];
+    let (n, m, t, right, columns) = (z.n, z.m, z.t, profile.right(&z), profile.columns(&z));
+    let inputs = [(a.len(), n * m), (s1.len(), m * t), (s2.len(), m * right), (v_out.len(), t * right)];
     let digits = [(tt_out.len(), n * columns), (dd_out.len(), columns * columns), (ss_out.len(), m * columns)];
     if misfit(&inputs) || misfit(&digits) {
         return Answer::Refused(7);
     }
-    if has_long_column(&z, s1) || has_long_column(&z, s2) {
+    let s2 = repeated(s2, right, 0, profile.times(&z));
+    if has_long_column(&z, s1) || has_long_column(&z, &s2) {
         return Answer::Refused(8);
     }
-    let ss = digit_matrix(&beside(s1, s2, m, t), m, 2 * t, z.b, z.k);
-    v_out.copy_from_slice(&words(&inner_products(s1, s2, m, t)));
-    tt_out.copy_from_slice(&wrapping_product(a, &wrapped(&ss), n, m, columns));
-    dd_out.copy_from_slice(&words(&inner_products(&ss, &ss, m, columns)));
-    ss_out.copy_from_slice(&ss);
+    let ss = digit_matrix(&beside(s1, &s2, m, t), m, 2 * t, z.b, z.k);
+    let tt = wrapping_product(a, &wrapped(&ss), n, m, z.columns);
+    let dd = words(&inner_products(&ss, &ss, m, z.columns));
+    v_out.copy_from_slice(&cut(&words(&inner_products(s1, &s2, m, t)), t, right));
+    tt_out.copy_from_slice(&cut(&tt, z.columns, columns));
+    dd_out.copy_from_slice(&cut_square(&dd, z.columns, columns));
+    ss_out.copy_from_slice(&cut(&ss, z.columns, columns));
     Answer::Done
 }
 
-/// Verdict: both instances, V, T~, D~, C to an answer and, on yes, T' = T~ C and D' = C-transposed D~ C. Long comes
-/// before the other answers, and after the refusals.
+/// The answer to a joined instance and a message: long where a diagonal entry of D exceeds B, then the equations.
+fn judged(z: &Shape, joined_t: &[u64], joined_d: &[i64], tt: &[u64], dd: &[i64]) -> Answer {
+    let (columns, wide) = (z.columns, 2 * z.t);
+    if (0..wide).any(|i| i128::from(joined_d[i * wide + i]) > i128::from(z.bound)) {
+        return Answer::Long;
+    }
+    let g = gadget(z);
+    let whole_g: Vec<i128> = g.iter().map(|x| *x as i128).collect();
+    let right = product(&whole(dd), &whole_g, columns, columns, wide);
+    if product(&transposed(&whole_g, columns, wide), &right, wide, columns, wide) != whole(joined_d) {
+        return Answer::Norm;
+    }
+    if wrapping_product(tt, &g, z.n, columns, wide) != joined_t {
+        return Answer::Commitment;
+    }
+    Answer::Yes
+}
+
+/// Verdict: both instances, V, T~, D~, C to an answer and, on yes, T' = T~ C and D' = C-transposed D~ C.
 pub fn verdict(
-    p: &Parameters, t1: &[u64], d1: &[i64], t2: &[u64], d2: &[i64], v: &[i64],
+    p: &Parameters, profile: Profile, t1: &[u64], d1: &[i64], t2: &[u64], d2: &[i64], v: &[i64],
     tt: &[u64], dd: &[i64], c: &[u8], t_out: &mut [u64], d_out: &mut [i64],
 ) -> Answer {
     let Ok(z) = shape(p) else { return Answer::Refused(refusal(p)) };
-    let (n, t, columns) = (z.n, z.t, z.columns);
-    let instances = [(t1.len(), n * t), (d1.len(), t * t), (t2.len(), n * t), (d2.len(), t * t)];
-    let message = [(v.len(), t * t), (tt.len(), n * columns), (dd.len(), columns * columns)];
-    let others = [(c.len(), columns * t), (t_out.len(), n * t), (d_out.len(), t * t)];
+    let (n, t, right, columns) = (z.n, z.t, profile.right(&z), profile.columns(&z));
+    let instances = [(t1.len(), n * t), (d1.len(), t * t), (t2.len(), n * right), (d2.len(), right * right)];
+    let message = [(v.len(), t * right), (tt.len(), n * columns), (dd.len(), columns * columns)];
+    let others = [(c.len(), z.columns * t), (t_out.len(), n * t), (d_out.len(), t * t)];
     if misfit(&instances) || misfit(&message) || misfit(&others) {
         return Answer::Refused(7);
     }
@@ -154,37 +206,31 @@ pub fn verdict(
     if dd.iter().any(|x| x.unsigned_abs() > z.product_limit) {
         return Answer::Refused(10);
     }
-    if has_long_diagonal(&z, d1) || has_long_diagonal(&z, d2) {
-        return Answer::Long;
+    let (joined_t, joined_d) = joined(&z, profile, t1, d1, t2, d2, v);
+    // The digits of the second witness stand from column kt on.
+    let tt = repeated(tt, columns, z.k * t, profile.times(&z));
+    let dd = repeated_square(dd, columns, z.k * t, profile.times(&z));
+    let answer = judged(&z, &joined_t, &joined_d, &tt, &dd);
+    if answer == Answer::Yes {
+        t_out.copy_from_slice(&wrapping_product(&tt, &wrapped(&c), n, z.columns, t));
+        let right = product(&whole(&dd), &whole(&c), z.columns, z.columns, t);
+        d_out.copy_from_slice(&words(&product(&transposed(&whole(&c), z.columns, t), &right, t, z.columns, t)));
     }
-    let (joined_t, joined_d) = joined(&z, t1, d1, t2, d2, v);
-    let g = gadget(&z);
-    let whole_g: Vec<i128> = g.iter().map(|x| *x as i128).collect();
-    let right = product(&whole(dd), &whole_g, columns, columns, 2 * t);
-    let recomposed = product(&transposed(&whole_g, columns, 2 * t), &right, 2 * t, columns, 2 * t);
-    if recomposed != whole(&joined_d) {
-        return Answer::Norm;
-    }
-    if wrapping_product(tt, &g, n, columns, 2 * t) != joined_t {
-        return Answer::Commitment;
-    }
-    t_out.copy_from_slice(&wrapping_product(tt, &wrapped(&c), n, columns, t));
-    let right = product(&whole(dd), &whole(&c), columns, columns, t);
-    d_out.copy_from_slice(&words(&product(&transposed(&whole(&c), columns, t), &right, t, columns, t)));
-    Answer::Yes
+    answer
 }
 
 /// Folded witness: S~, C to S' = S~ C.
-pub fn folded_witness(p: &Parameters, ss: &[i64], c: &[u8], s_out: &mut [i64]) -> Answer {
+pub fn folded_witness(p: &Parameters, profile: Profile, ss: &[i64], c: &[u8], s_out: &mut [i64]) -> Answer {
     let Ok(z) = shape(p) else { return Answer::Refused(refusal(p)) };
-    let (m, t, columns) = (z.m, z.t, z.columns);
-    if misfit(&[(ss.len(), m * columns), (c.len(), columns * t), (s_out.len(), m * t)]) {
+    let (m, t, columns) = (z.m, z.t, profile.columns(&z));
+    if misfit(&[(ss.len(), m * columns), (c.len(), z.columns * t), (s_out.len(), m * t)]) {
         return Answer::Refused(7);
     }
     let Some(c) = challenge_values(c) else { return Answer::Refused(9) };
     if ss.iter().any(|x| x.unsigned_abs() > z.h) {
         return Answer::Refused(11);
     }
-    s_out.copy_from_slice(&words(&product(&whole(ss), &whole(&c), m, columns, t)));
+    let ss = repeated(ss, columns, z.k * t, profile.times(&z));
+    s_out.copy_from_slice(&words(&product(&whole(&ss), &whole(&c), m, z.columns, t)));
     Answer::Done
 }

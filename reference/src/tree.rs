@@ -1,15 +1,17 @@
 //! Trees of folds: the honest calls, and the plain tree.
 
 use crate::digits::digit_matrix;
-use crate::matrices::{beside, product, whole, words};
+use crate::matrices::{beside, product, repeated, whole, words};
 use crate::operations::*;
-use crate::settings::{shape, Parameters};
+use crate::settings::{shape, Parameters, Shape};
 
-/// A leaf with a witness, or a fold of a left and a right tree with a challenge.
+/// A leaf with a witness, or a fold of a left and a right tree with a challenge; the right child may be a fresh leaf,
+/// which is its vector.
 #[derive(Clone, Debug)]
 pub enum Tree {
     Leaf(Vec<i64>),
     Fold(Box<Tree>, Box<Tree>, Vec<u8>),
+    FoldFresh(Box<Tree>, Vec<i64>, Vec<u8>),
 }
 
 /// An instance T, D with its witness S.
@@ -29,7 +31,7 @@ pub struct Message {
     pub ss: Vec<i64>,
 }
 
-/// What fresh outputs hold before a call; any value would do.
+/// What outputs hold before a call; any value would do.
 const HELD: i64 = 77;
 
 /// The matrix that the plain tree makes; nothing for a refused setting or a leaf or C that does not fit it.
@@ -37,13 +39,17 @@ pub fn plain(p: &Parameters, tree: &Tree) -> Option<Vec<i64>> {
     let z = shape(p).ok()?;
     match tree {
         Tree::Leaf(s) => (s.len() == z.m * z.t).then(|| s.clone()),
-        Tree::Fold(left, right, c) => {
-            let both = beside(&plain(p, left)?, &plain(p, right)?, z.m, z.t);
-            let digits = digit_matrix(&both, z.m, 2 * z.t, z.b, z.k);
-            let c = challenge_values(c).filter(|c| c.len() == z.columns * z.t)?;
-            Some(words(&product(&whole(&digits), &whole(&c), z.m, z.columns, z.t)))
-        }
+        Tree::Fold(left, right, c) => plain_fold(&z, &plain(p, left)?, &plain(p, right)?, c),
+        Tree::FoldFresh(left, v, c) if v.len() == z.m => plain_fold(&z, &plain(p, left)?, &repeated(v, 1, 0, z.t), c),
+        Tree::FoldFresh(..) => None,
     }
+}
+
+/// The digits of [S1 S2] times C; nothing for a C that does not fit the setting.
+fn plain_fold(z: &Shape, s1: &[i64], s2: &[i64], c: &[u8]) -> Option<Vec<i64>> {
+    let digits = digit_matrix(&beside(s1, s2, z.m, z.t), z.m, 2 * z.t, z.b, z.k);
+    let c = challenge_values(c).filter(|c| c.len() == z.columns * z.t)?;
+    Some(words(&product(&whole(&digits), &whole(&c), z.m, z.columns, z.t)))
 }
 
 /// The number of a refusal as an error, any other answer as it is.
@@ -55,54 +61,62 @@ fn accepted(answer: Answer) -> Result<Answer, u32> {
 }
 
 /// The honest leaf: commit's instance with its witness.
-pub fn leaf(p: &Parameters, a: &[u64], s: &[i64]) -> Result<Node, u32> {
+pub fn leaf(p: &Parameters, profile: Profile, a: &[u64], s: &[i64]) -> Result<Node, u32> {
     let z = shape(p)?;
-    let mut t = vec![HELD as u64; z.n * z.t];
-    let mut d = vec![HELD; z.t * z.t];
-    accepted(commit(p, a, s, &mut t, &mut d))?;
+    let right = profile.right(&z);
+    let mut t = vec![HELD as u64; z.n * right];
+    let mut d = vec![HELD; right * right];
+    accepted(commit(p, profile, a, s, &mut t, &mut d))?;
     Ok(Node { t, d, s: s.to_vec() })
 }
 
 /// The honest message for two witnesses.
-pub fn honest_message(p: &Parameters, a: &[u64], s1: &[i64], s2: &[i64]) -> Result<Message, u32> {
+pub fn honest_message(p: &Parameters, profile: Profile, a: &[u64], s1: &[i64], s2: &[i64]) -> Result<Message, u32> {
     let z = shape(p)?;
-    let mut v = vec![HELD; z.t * z.t];
-    let mut tt = vec![HELD as u64; z.n * z.columns];
-    let mut dd = vec![HELD; z.columns * z.columns];
-    let mut ss = vec![HELD; z.m * z.columns];
-    accepted(message(p, a, s1, s2, &mut v, &mut tt, &mut dd, &mut ss))?;
+    let columns = profile.columns(&z);
+    let mut v = vec![HELD; z.t * profile.right(&z)];
+    let mut tt = vec![HELD as u64; z.n * columns];
+    let mut dd = vec![HELD; columns * columns];
+    let mut ss = vec![HELD; z.m * columns];
+    accepted(message(p, profile, a, s1, s2, &mut v, &mut tt, &mut dd, &mut ss))?;
     Ok(Message { v, tt, dd, ss })
 }
 
 /// The honest fold of two nodes: the verdict and the folded node.
-pub fn fold(p: &Parameters, a: &[u64], left: &Node, right: &Node, c: &[u8]) -> Result<(Answer, Node), u32> {
+pub fn fold(
+    p: &Parameters, profile: Profile, a: &[u64], left: &Node, right: &Node, c: &[u8],
+) -> Result<(Answer, Node), u32> {
     let z = shape(p)?;
-    let sent = honest_message(p, a, &left.s, &right.s)?;
+    let sent = honest_message(p, profile, a, &left.s, &right.s)?;
     let mut joined_t = vec![HELD as u64; 2 * z.n * z.t];
     let mut joined_d = vec![HELD; 4 * z.t * z.t];
-    accepted(join(p, &left.t, &left.d, &right.t, &right.d, &sent.v, &mut joined_t, &mut joined_d))?;
+    accepted(join(p, profile, &left.t, &left.d, &right.t, &right.d, &sent.v, &mut joined_t, &mut joined_d))?;
     let mut t = vec![HELD as u64; z.n * z.t];
     let mut d = vec![HELD; z.t * z.t];
-    let answer = verdict(
-        p, &left.t, &left.d, &right.t, &right.d, &sent.v, &sent.tt, &sent.dd, c, &mut t, &mut d,
-    );
+    let answer =
+        verdict(p, profile, &left.t, &left.d, &right.t, &right.d, &sent.v, &sent.tt, &sent.dd, c, &mut t, &mut d);
     let answer = accepted(answer)?;
     let mut s = vec![HELD; z.m * z.t];
-    accepted(folded_witness(p, &sent.ss, c, &mut s))?;
+    accepted(folded_witness(p, profile, &sent.ss, c, &mut s))?;
     Ok((answer, Node { t, d, s }))
 }
 
 /// The honest tree: every verdict, folds from the leaves up and left before right, and the root.
 pub fn honest(p: &Parameters, a: &[u64], tree: &Tree) -> Result<(Vec<Answer>, Node), u32> {
-    match tree {
-        Tree::Leaf(s) => Ok((Vec::new(), leaf(p, a, s)?)),
+    let (mut answers, (answer, node)) = match tree {
+        Tree::Leaf(s) => return Ok((Vec::new(), leaf(p, Profile::General, a, s)?)),
         Tree::Fold(left, right, c) => {
             let (mut answers, left) = honest(p, a, left)?;
             let (others, right) = honest(p, a, right)?;
-            let (answer, node) = fold(p, a, &left, &right, c)?;
             answers.extend(others);
-            answers.push(answer);
-            Ok((answers, node))
+            (answers, fold(p, Profile::General, a, &left, &right, c)?)
         }
-    }
+        Tree::FoldFresh(left, v, c) => {
+            let (answers, left) = honest(p, a, left)?;
+            let right = leaf(p, Profile::Fresh, a, v)?;
+            (answers, fold(p, Profile::Fresh, a, &left, &right, c)?)
+        }
+    };
+    answers.push(answer);
+    Ok((answers, node))
 }

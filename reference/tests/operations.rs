@@ -3,6 +3,7 @@
 mod common;
 use common::*;
 use reference::operations::Answer::*;
+use reference::operations::Profile::{Fresh, General};
 use reference::operations::*;
 use reference::rng::Rng;
 use reference::settings::{Parameters, LIST};
@@ -13,9 +14,9 @@ const C: [u8; 10] = [1, 1, 1, 0, 0, 2, 0, 2, 0, 0];
 
 /// The fold of the worked example: instances of 7 and −5 and their message.
 fn example() -> (Node, Node, Message) {
-    let left = leaf(&ONE, &[3], &[7]).unwrap();
-    let right = leaf(&ONE, &[3], &[-5]).unwrap();
-    let sent = honest_message(&ONE, &[3], &left.s, &right.s).unwrap();
+    let left = leaf(&ONE, General, &[3], &[7]).unwrap();
+    let right = leaf(&ONE, General, &[3], &[-5]).unwrap();
+    let sent = honest_message(&ONE, General, &[3], &left.s, &right.s).unwrap();
     (left, right, sent)
 }
 
@@ -23,7 +24,8 @@ fn example() -> (Node, Node, Message) {
 fn judge(p: &Parameters, left: &Node, right: &Node, sent: &Message, c: &[u8]) -> (Answer, Vec<u64>, Vec<i64>) {
     let mut t = vec![123; left.t.len()];
     let mut d = vec![-123; left.d.len()];
-    let answer = verdict(p, &left.t, &left.d, &right.t, &right.d, &sent.v, &sent.tt, &sent.dd, c, &mut t, &mut d);
+    let answer =
+        verdict(p, General, &left.t, &left.d, &right.t, &right.d, &sent.v, &sent.tt, &sent.dd, c, &mut t, &mut d);
     if answer != Yes {
         assert!(t.iter().all(|x| *x == 123) && d.iter().all(|x| *x == -123), "outputs keep what they held");
     }
@@ -32,13 +34,13 @@ fn judge(p: &Parameters, left: &Node, right: &Node, sent: &Message, c: &[u8]) ->
 
 #[test]
 fn commit_points() {
-    assert_eq!(leaf(&ONE, &[3], &[10]).unwrap().d, [100]);
+    assert_eq!(leaf(&ONE, General, &[3], &[10]).unwrap().d, [100]);
     for s in [11, -11, i64::MIN, i64::MAX, 1 << 32, -(1 << 32)] {
         let (mut t, mut d) = ([5], [6]);
-        assert_eq!(commit(&ONE, &[3], &[s], &mut t, &mut d), Refused(8));
+        assert_eq!(commit(&ONE, General, &[3], &[s], &mut t, &mut d), Refused(8));
         assert_eq!((t, d), ([5], [6]));
     }
-    let node = leaf(&ONE, &[1 << 63], &[2]).unwrap();
+    let node = leaf(&ONE, General, &[1 << 63], &[2]).unwrap();
     assert_eq!((node.t, node.d), (vec![0], vec![4]));
 }
 
@@ -46,14 +48,14 @@ fn commit_points() {
 fn column_lengths_do_not_wrap() {
     // Squared lengths that are 0 modulo 2^64 or 2^128.
     let four = setting(1, 4, 1, 2, 4u64.pow(6));
-    assert_eq!(leaf(&four, &[1; 4], &[1 << 31; 4]), Err(8));
-    assert_eq!(leaf(&four, &[1; 4], &[i64::MIN; 4]), Err(8));
+    assert_eq!(leaf(&four, General, &[1; 4], &[1 << 31; 4]), Err(8));
+    assert_eq!(leaf(&four, General, &[1; 4], &[i64::MIN; 4]), Err(8));
     let wide = setting(1, 4096, 1, 2, 4u64.pow(12));
-    assert_eq!(leaf(&wide, &[1; 4096], &[i64::MIN; 4096]), Err(8));
+    assert_eq!(leaf(&wide, General, &[1; 4096], &[i64::MIN; 4096]), Err(8));
     assert_eq!(relation(&wide, &[1; 4096], &[0], &[0], &[i64::MIN; 4096]), Long);
     assert_eq!(relation(&four, &[1; 4], &[0], &[0], &[1 << 31; 4]), Long);
-    assert_eq!(honest_message(&four, &[1; 4], &[0; 4], &[1 << 31; 4]), Err(8));
-    assert_eq!(honest_message(&four, &[1; 4], &[i64::MIN; 4], &[0; 4]), Err(8));
+    assert_eq!(honest_message(&four, General, &[1; 4], &[0; 4], &[1 << 31; 4]), Err(8));
+    assert_eq!(honest_message(&four, General, &[1; 4], &[i64::MIN; 4], &[0; 4]), Err(8));
 }
 
 #[test]
@@ -71,11 +73,11 @@ fn example_fold_in_full() {
         }
     }
     let (mut t, mut d) = ([0; 2], [0; 4]);
-    assert_eq!(join(&ONE, &left.t, &left.d, &right.t, &right.d, &sent.v, &mut t, &mut d), Done);
+    assert_eq!(join(&ONE, General, &left.t, &left.d, &right.t, &right.d, &sent.v, &mut t, &mut d), Done);
     assert_eq!((t, d), ([21, 15u64.wrapping_neg()], [49, -35, -35, 25]));
     assert_eq!(judge(&ONE, &left, &right, &sent, &C), (Yes, vec![15], vec![25]));
     let mut s = [0];
-    assert_eq!(folded_witness(&ONE, &sent.ss, &C, &mut s), Done);
+    assert_eq!(folded_witness(&ONE, General, &sent.ss, &C, &mut s), Done);
     assert_eq!(s, [5]);
     assert_eq!(relation(&ONE, &[3], &[15], &[25], &s), Member);
 }
@@ -111,9 +113,9 @@ fn verdict_refusals_in_order() {
 fn entries_of_d_reach_h_squared_times_m() {
     // Honest entries above h² alone, which 10 must let pass.
     let p = setting(1, 2, 1, 3, 72);
-    let left = leaf(&p, &[1, 1], &[4, 4]).unwrap();
-    let right = leaf(&p, &[1, 1], &[-4, -4]).unwrap();
-    let sent = honest_message(&p, &[1, 1], &left.s, &right.s).unwrap();
+    let left = leaf(&p, General, &[1, 1], &[4, 4]).unwrap();
+    let right = leaf(&p, General, &[1, 1], &[-4, -4]).unwrap();
+    let sent = honest_message(&p, General, &[1, 1], &left.s, &right.s).unwrap();
     assert!(sent.dd.contains(&2) && sent.dd.contains(&-2));
     assert_eq!(judge(&p, &left, &right, &sent, &[1; 6]).0, Yes);
 }
@@ -123,18 +125,18 @@ fn folded_witness_refusals_in_order() {
     let mut s = [44];
     let mut ss = [1, 1, 1, 0, 0, -1, 0, -1, 0, 2];
     let mut c = C;
-    assert_eq!(folded_witness(&ONE, &ss, &c, &mut s), Refused(11));
+    assert_eq!(folded_witness(&ONE, General, &ss, &c, &mut s), Refused(11));
     ss[9] = i64::MIN;
-    assert_eq!(folded_witness(&ONE, &ss, &c, &mut s), Refused(11));
+    assert_eq!(folded_witness(&ONE, General, &ss, &c, &mut s), Refused(11));
     c[0] = 3;
-    assert_eq!(folded_witness(&ONE, &ss, &c, &mut s), Refused(9));
-    assert_eq!(folded_witness(&ONE, &ss[1..], &c, &mut s), Refused(7));
-    assert_eq!(folded_witness(&ONE, &ss, &c[1..], &mut s), Refused(7));
-    assert_eq!(folded_witness(&ONE, &ss, &c, &mut []), Refused(7));
-    assert_eq!(folded_witness(&setting(0, 1, 1, 2, 100), &ss[1..], &c, &mut s), Refused(1));
+    assert_eq!(folded_witness(&ONE, General, &ss, &c, &mut s), Refused(9));
+    assert_eq!(folded_witness(&ONE, General, &ss[1..], &c, &mut s), Refused(7));
+    assert_eq!(folded_witness(&ONE, General, &ss, &c[1..], &mut s), Refused(7));
+    assert_eq!(folded_witness(&ONE, General, &ss, &c, &mut []), Refused(7));
+    assert_eq!(folded_witness(&setting(0, 1, 1, 2, 100), General, &ss[1..], &c, &mut s), Refused(1));
     assert_eq!(s, [44]);
     ss[9] = -1;
-    assert_eq!(folded_witness(&ONE, &ss, &C, &mut s), Done);
+    assert_eq!(folded_witness(&ONE, General, &ss, &C, &mut s), Done);
 }
 
 #[test]
@@ -167,14 +169,15 @@ fn every_wrong_length_is_7_and_writes_nothing() {
         if changed == position { (length as isize + by) as usize } else { length }
     };
     // Each position in turn one too short, one too long; position usize::MAX changes nothing.
-    for by in [-1, 1] {
+    for (by, profile) in [(-1, General), (1, General), (-1, Fresh), (1, Fresh)] {
+        let (right, wide) = if profile == General { (t, columns) } else { (1, columns / 2 + p.k() as usize) };
         for position in (0..11).chain([usize::MAX]) {
             let l = |at: usize, length: usize| all(at, position, length, by);
             let words = |at: usize, length: usize| vec![9u64; l(at, length)];
             let signed = |at: usize, length: usize| vec![9i64; l(at, length)];
 
-            let (mut t_out, mut d_out) = (words(2, n * t), signed(3, t * t));
-            let answer = commit(&p, &words(0, n * m), &signed(1, m * t), &mut t_out, &mut d_out);
+            let (mut t_out, mut d_out) = (words(2, n * right), signed(3, right * right));
+            let answer = commit(&p, profile, &words(0, n * m), &signed(1, m * right), &mut t_out, &mut d_out);
             if position < 4 {
                 assert_eq!(answer, Refused(7));
                 assert!(t_out.iter().all(|x| *x == 9) && d_out.iter().all(|x| *x == 9));
@@ -186,8 +189,8 @@ fn every_wrong_length_is_7_and_writes_nothing() {
             assert_eq!(answer == Refused(7), position < 4);
 
             let (mut t_out, mut d_out) = (words(5, 2 * n * t), vec![8i64; l(6, 4 * t * t)]);
-            let (t1, d1, t2, d2) = (words(0, n * t), signed(1, t * t), words(2, n * t), signed(3, t * t));
-            let answer = join(&p, &t1, &d1, &t2, &d2, &signed(4, t * t), &mut t_out, &mut d_out);
+            let (t1, d1, t2, d2) = (words(0, n * t), signed(1, t * t), words(2, n * right), signed(3, right * right));
+            let answer = join(&p, profile, &t1, &d1, &t2, &d2, &signed(4, t * right), &mut t_out, &mut d_out);
             if position < 7 {
                 assert_eq!(answer, Refused(7));
                 assert!(t_out.iter().all(|x| *x == 9) && d_out.iter().all(|x| *x == 8));
@@ -195,10 +198,10 @@ fn every_wrong_length_is_7_and_writes_nothing() {
                 assert_eq!(answer, Done);
             }
 
-            let (mut v, mut tt) = (signed(3, t * t), words(4, n * columns));
-            let (mut dd, mut ss) = (signed(5, columns * columns), signed(6, m * columns));
-            let (a, s1, s2) = (words(0, n * m), signed(1, m * t), signed(2, m * t));
-            let answer = message(&p, &a, &s1, &s2, &mut v, &mut tt, &mut dd, &mut ss);
+            let (mut v, mut tt) = (signed(3, t * right), words(4, n * wide));
+            let (mut dd, mut ss) = (signed(5, wide * wide), signed(6, m * wide));
+            let (a, s1, s2) = (words(0, n * m), signed(1, m * t), signed(2, m * right));
+            let answer = message(&p, profile, &a, &s1, &s2, &mut v, &mut tt, &mut dd, &mut ss);
             if position < 7 {
                 assert_eq!(answer, Refused(7));
                 assert!(tt.iter().all(|x| *x == 9));
@@ -208,15 +211,15 @@ fn every_wrong_length_is_7_and_writes_nothing() {
             }
 
             let (mut t_out, mut d_out) = (words(8, n * t), signed(9, t * t));
-            let (t1, d1, t2, d2) = (words(0, n * t), signed(1, t * t), words(2, n * t), signed(3, t * t));
-            let (v, tt, dd) = (signed(4, t * t), words(5, n * columns), signed(6, columns * columns));
+            let (t1, d1, t2, d2) = (words(0, n * t), signed(1, t * t), words(2, n * right), signed(3, right * right));
+            let (v, tt, dd) = (signed(4, t * right), words(5, n * wide), signed(6, wide * wide));
             let c = vec![1u8; l(7, columns * t)];
-            let answer = verdict(&p, &t1, &d1, &t2, &d2, &v, &tt, &dd, &c, &mut t_out, &mut d_out);
+            let answer = verdict(&p, profile, &t1, &d1, &t2, &d2, &v, &tt, &dd, &c, &mut t_out, &mut d_out);
             assert_eq!(answer, if position < 10 { Refused(7) } else { Norm });
             assert!(t_out.iter().all(|x| *x == 9) && d_out.iter().all(|x| *x == 9));
 
-            let (ss, c, mut s) = (signed(0, m * columns), vec![1u8; l(1, columns * t)], signed(2, m * t));
-            let answer = folded_witness(&p, &ss, &c, &mut s);
+            let (ss, c, mut s) = (signed(0, m * wide), vec![1u8; l(1, columns * t)], signed(2, m * t));
+            let answer = folded_witness(&p, profile, &ss, &c, &mut s);
             if position < 3 {
                 assert_eq!(answer, Refused(7));
                 assert!(s.iter().all(|x| *x == 9));
@@ -235,14 +238,14 @@ fn bad_settings_come_first_in_every_operation() {
         (4, setting(1, 1, 16, 2, 4u64.pow(15))), (5, setting(1, 1, 1, 2, 99)),
         (6, setting(1, 4096, 1, 2, 4u64.pow(24))), (6, setting(16, 256, 2, 128, 268435456)),
     ];
-    for (number, p) in bad {
+    for ((number, p), profile) in bad.iter().flat_map(|bad| [(*bad, General), (*bad, Fresh)]) {
         let (mut t, mut d, mut v, mut s) = ([7u64; 3], [7i64; 3], [7i64; 3], [7i64; 3]);
-        assert_eq!(commit(&p, &[1], &[11], &mut t, &mut d), Refused(number));
+        assert_eq!(commit(&p, profile, &[1], &[11], &mut t, &mut d), Refused(number));
         assert_eq!(relation(&p, &[1], &[1], &[1], &[11]), Refused(number));
-        assert_eq!(join(&p, &[], &[], &[], &[], &[], &mut t, &mut d), Refused(number));
-        assert_eq!(message(&p, &[], &[11], &[], &mut v, &mut t, &mut d, &mut s), Refused(number));
-        assert_eq!(verdict(&p, &[], &[], &[], &[], &[], &[], &[9], &[3], &mut t, &mut d), Refused(number));
-        assert_eq!(folded_witness(&p, &[9], &[3], &mut s), Refused(number));
+        assert_eq!(join(&p, profile, &[], &[], &[], &[], &[], &mut t, &mut d), Refused(number));
+        assert_eq!(message(&p, profile, &[], &[11], &[], &mut v, &mut t, &mut d, &mut s), Refused(number));
+        assert_eq!(verdict(&p, profile, &[], &[], &[], &[], &[], &[], &[9], &[3], &mut t, &mut d), Refused(number));
+        assert_eq!(folded_witness(&p, profile, &[9], &[3], &mut s), Refused(number));
         assert_eq!((t, d, v, s), ([7; 3], [7; 3], [7; 3], [7; 3]));
     }
 }
@@ -251,14 +254,14 @@ fn bad_settings_come_first_in_every_operation() {
 fn message_8_for_either_witness_writes_nothing() {
     for (s1, s2) in [([11], [0]), ([0], [11]), ([i64::MIN], [0]), ([0], [i64::MIN])] {
         let (mut v, mut tt, mut dd, mut ss) = ([5i64; 1], [5u64; 10], [5i64; 100], [5i64; 10]);
-        assert_eq!(message(&ONE, &[3], &s1, &s2, &mut v, &mut tt, &mut dd, &mut ss), Refused(8));
+        assert_eq!(message(&ONE, General, &[3], &s1, &s2, &mut v, &mut tt, &mut dd, &mut ss), Refused(8));
         assert_eq!((v, tt, dd, ss), ([5; 1], [5; 10], [5; 100], [5; 10]));
     }
     // Only the last column of the second witness is too long.
     let p = setting(1, 2, 2, 9, 4608);
-    assert_eq!(honest_message(&p, &[1, 1], &[0, 0, 0, 0], &[0, 48, 0, 48]).err(), None);
-    assert_eq!(honest_message(&p, &[1, 1], &[0, 0, 0, 0], &[0, 48, 0, 49]).err(), Some(8));
-    assert_eq!(honest_message(&p, &[1, 1], &[0, 48, 0, 49], &[0, 0, 0, 0]).err(), Some(8));
+    assert_eq!(honest_message(&p, General, &[1, 1], &[0, 0, 0, 0], &[0, 48, 0, 48]).err(), None);
+    assert_eq!(honest_message(&p, General, &[1, 1], &[0, 0, 0, 0], &[0, 48, 0, 49]).err(), Some(8));
+    assert_eq!(honest_message(&p, General, &[1, 1], &[0, 48, 0, 49], &[0, 0, 0, 0]).err(), Some(8));
 }
 
 #[test]
@@ -270,11 +273,11 @@ fn outcomes_by_their_sums() {
         let (n, m, t, columns) = sizes(&p);
         let k = p.k() as usize;
         let a = random_matrix(&mut rng, &p);
-        let left = leaf(&p, &a, &rng.witness(m, t, p.bound)).unwrap();
-        let right = leaf(&p, &a, &rng.witness(m, t, p.bound)).unwrap();
-        let sent = honest_message(&p, &a, &left.s, &right.s).unwrap();
+        let left = leaf(&p, General, &a, &rng.witness(m, t, p.bound)).unwrap();
+        let right = leaf(&p, General, &a, &rng.witness(m, t, p.bound)).unwrap();
+        let sent = honest_message(&p, General, &a, &left.s, &right.s).unwrap();
         let c = random_challenge(&mut rng, &p);
-        let (answer, folded) = fold(&p, &a, &left, &right, &c).unwrap();
+        let (answer, folded) = fold(&p, General, &a, &left, &right, &c).unwrap();
         assert_eq!(answer, Yes);
         for j in 0..t {
             for i in 0..n {
@@ -330,7 +333,7 @@ fn outcomes_by_their_sums() {
 fn join_puts_v_in_the_upper_right() {
     let p = setting(1, 1, 2, 5, 576);
     let (mut t, mut d) = ([0; 4], [0; 16]);
-    let answer = join(&p, &[1, 2], &[1, 2, 3, 4], &[3, 4], &[5, 6, 7, 8], &[11, 12, 13, 14], &mut t, &mut d);
+    let answer = join(&p, General, &[1, 2], &[1, 2, 3, 4], &[3, 4], &[5, 6, 7, 8], &[11, 12, 13, 14], &mut t, &mut d);
     assert_eq!(answer, Done);
     assert_eq!(t, [1, 2, 3, 4]);
     assert_eq!(d, [1, 2, 11, 12, 3, 4, 13, 14, 11, 13, 5, 6, 12, 14, 7, 8]);
@@ -349,9 +352,9 @@ fn damaged_messages() {
         let (_, m, t, columns) = sizes(&p);
         let k = p.k() as usize;
         let a = random_matrix(&mut rng, &p);
-        let mut left = leaf(&p, &a, &rng.witness(m, t, p.bound)).unwrap();
-        let mut right = leaf(&p, &a, &rng.witness(m, t, p.bound)).unwrap();
-        let mut sent = honest_message(&p, &a, &left.s, &right.s).unwrap();
+        let mut left = leaf(&p, General, &a, &rng.witness(m, t, p.bound)).unwrap();
+        let mut right = leaf(&p, General, &a, &rng.witness(m, t, p.bound)).unwrap();
+        let mut sent = honest_message(&p, General, &a, &left.s, &right.s).unwrap();
         let c = random_challenge(&mut rng, &p);
         let pick = |rng: &mut Rng, length: usize| rng.word() as usize % length;
         let step = [-1, 1][pick(&mut rng, 2)];
@@ -450,7 +453,7 @@ fn a_long_start_does_not_pass() {
         assert_eq!(judge(&p, &instance(11), &instance(-5), &first, &C).0, answer);
         assert_eq!(judge(&p, &instance(7), &instance(11), &second, &C).0, answer);
     }
-    let border = honest_message(&ONE, &[3], &[10], &[-10]).unwrap();
+    let border = honest_message(&ONE, General, &[3], &[10], &[-10]).unwrap();
     assert_eq!(judge(&ONE, &instance(10), &instance(-10), &border, &C).0, Yes);
 }
 

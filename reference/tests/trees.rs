@@ -38,6 +38,45 @@ fn example() {
     check(&LIST[0], &[3], &tree, 1);
 }
 
+/// The tree with an ordinary leaf, its vector repeated, in the place of each fresh one.
+fn without_fresh(p: &Parameters, tree: &Tree) -> Tree {
+    match tree {
+        Tree::Leaf(_) => tree.clone(),
+        Tree::Fold(left, right, c) => {
+            Tree::Fold(Box::new(without_fresh(p, left)), Box::new(without_fresh(p, right)), c.clone())
+        }
+        Tree::FoldFresh(left, v, c) => {
+            let s = v.iter().flat_map(|x| vec![*x; p.t as usize]).collect();
+            Tree::Fold(Box::new(without_fresh(p, left)), Box::new(Tree::Leaf(s)), c.clone())
+        }
+    }
+}
+
+/// How many fresh leaves a tree has.
+fn fresh_leaves(tree: &Tree) -> usize {
+    match tree {
+        Tree::Leaf(_) => 0,
+        Tree::Fold(left, right, _) => fresh_leaves(left) + fresh_leaves(right),
+        Tree::FoldFresh(left, ..) => 1 + fresh_leaves(left),
+    }
+}
+
+#[test]
+fn fresh_leaves_are_repeated_ones() {
+    let mut rng = Rng::new(45);
+    let mut fresh = 0;
+    for round in 0..60 {
+        let p = if round % 2 == 0 { LIST[1] } else { random_setting(&mut rng, 40) };
+        let a = random_matrix(&mut rng, &p);
+        let tree = random_tree(&mut rng, &p, 8);
+        let other = without_fresh(&p, &tree);
+        assert_eq!(honest(&p, &a, &tree), honest(&p, &a, &other));
+        assert_eq!(plain(&p, &tree), plain(&p, &other));
+        fresh += if p.t > 1 { fresh_leaves(&tree) } else { 0 };
+    }
+    assert!(fresh > 50, "{fresh}");
+}
+
 #[test]
 fn settings_of_the_list() {
     let mut rng = Rng::new(41);
@@ -131,4 +170,9 @@ fn misfits_are_values() {
     assert_eq!(plain(&LIST[0], &Tree::Fold(leaf(), leaf(), vec![1; 9])), None);
     assert_eq!(plain(&LIST[0], &Tree::Fold(leaf(), leaf(), vec![3; 10])), None);
     assert_eq!(honest(&LIST[0], &[3], &Tree::Fold(leaf(), leaf(), vec![3; 10])), Err(9));
+    let fresh = |v: Vec<i64>, c: u8| Tree::FoldFresh(leaf(), v, vec![c; 10]);
+    assert_eq!(plain(&LIST[0], &fresh(vec![1, 1], 1)), None);
+    assert_eq!(honest(&LIST[0], &[3], &fresh(vec![1, 1], 1)), Err(7));
+    assert_eq!(honest(&LIST[0], &[3], &fresh(vec![11], 1)), Err(8));
+    assert_eq!(plain(&LIST[0], &fresh(vec![1], 3)), None);
 }

@@ -19,7 +19,8 @@ use Rattle.text.proofs.Records.{record-each, ternary-each, each-at}
 use Rattle.lova.specs.Answers.{done, «yes», member, Outcome, ends, unlessRefused, afterSetting}
 use Rattle.lova.specs.Stored.{matrixA, matrixS, sizeC}
 use Rattle.lova.specs.Calls.{Fits, Short}
-use Rattle.lova.specs.Commit.{commitRules, instanceOf, commit}
+use Rattle.lova.specs.declared.Profile.the-variants.{General}
+use Rattle.lova.specs.Commit.{commitRules, instanceOf, commitIn, commit}
 use Rattle.lova.specs.Trees.{Tree, leaf, fold, Proper, seen, viewOf, leftWitness}
 use Rattle.lova.proofs.Refusals.{commit-proper}
 use Rattle.chain.specs.Limits.{settingLimits, small, programLimits, programRules}
@@ -148,11 +149,11 @@ module _ (ls : List (List ℕ)) (n : Counts) (line : List ℕ) where
 
   -- a leaf that is not refused has columns within B
   leaf-proper : (p : Parameters) (A : List ℕ) (S : List ℤ) → recordOf readI64 leafWord (matrixS p .size) line ≡ some S → refuses ((commit p A S (blankInstance p)) .answer) ≡ false → Proper p (leaf S)
-  unfolding commit unlessRefused refusal refuses Proper
-  leaf-proper p A S h e = (record-length readI64 leafWord (matrixS p .size) line S h, by (firstOf (afterSetting p (commitRules p A S (blankInstance p)))) refl e)
+  unfolding commitIn unlessRefused refusal refuses Proper
+  leaf-proper p A S h e = (record-length readI64 leafWord (matrixS p .size) line S h, by (firstOf (afterSetting p (commitRules p General A S (blankInstance p)))) refl e)
     where
-      by : (k : ℕ) → firstOf (afterSetting p (commitRules p A S (blankInstance p))) ≡ k → refuses (unlessRefused k (blankInstance p) (ends done (instanceOf p A S)) .answer) ≡ false → Short p S
-      by zero z f = commit-proper p A S (blankInstance p) .0 z .columns
+      by : (k : ℕ) → firstOf (afterSetting p (commitRules p General A S (blankInstance p))) ≡ k → refuses (unlessRefused k (blankInstance p) (ends done (instanceOf p A S)) .answer) ≡ false → Short p S
+      by zero z f = commit-proper p General A S (blankInstance p) .0 z .columns
       by (suc k) z f = absurd (true≢false f)
 
   at-leaf : (p : Parameters) (A : List ℕ) (after : Node → Stage)

@@ -6,31 +6,34 @@ use lib.IntN.{ℤ, pos}
 use lib.ListN.{length-replicate}
 use Rattle.settings.specs.Settings.{Parameters, settingRefusal}
 use Rattle.lova.specs.Answers.{Meaning, done, «yes», member, ends}
+use Rattle.lova.specs.declared.Profile.{Profile}
+use Rattle.lova.specs.declared.Profile.the-variants.{General, Fresh}
 use Rattle.lova.specs.Stored.{matrixA, matrixS}
+use Rattle.lova.specs.Repeats.{repeatedS}
 use Rattle.lova.specs.Calls.{Fits, FitsInstance}
 use Rattle.lova.specs.Commit.{commit}
 use Rattle.lova.specs.Relation.{Related, relation}
-use Rattle.lova.specs.Trees.{Tree, leaf, fold, plain, Proper, HeldFits, leftWitness, seen, prepares, viewOf, AllAccepted, Honest}
+use Rattle.lova.specs.Trees.{Tree, leaf, fold, foldFresh, plain, Proper, FitsBefore, HeldFits, leftWitness, seen, prepares, viewOf, AllAccepted, Honest}
 use Rattle.lova.proofs.OneFold.{instance-fits, witness-fits}
 use Rattle.lova.proofs.Theorems.{every-tree-is-honest, relation-member}
 use Rattle.chain.specs.Nodes.{Node, blankInstance, refusal, refuses, leafOf, foldAnswer, callsOf, foldOf}
-use Rattle.chain.specs.Trees.{blankHeld, treeNode}
+use Rattle.chain.specs.Trees.{blankBefore, blankHeld, treeNode}
 use Rattle.chain.proofs.Refusing.{leaf-ends, blankNode, calls-end, fold-ends}
 
 -- zeros fit
+before-fits : (p : Parameters) (f : Profile) → FitsBefore p f (blankBefore p f)
+before-fits p f = (
+  ((length-replicate _ (pos 0), length-replicate _ 0, length-replicate _ (pos 0)), length-replicate _ (pos 0)),
+  (length-replicate _ 0, length-replicate _ (pos 0)),
+  (length-replicate _ 0, length-replicate _ (pos 0)),
+  length-replicate _ (pos 0),
+)
+
 held-fits : (p : Parameters) (t : Tree) → HeldFits p t (blankHeld p t)
 unfolding HeldFits blankHeld
 held-fits p (leaf S) = (length-replicate _ 0, length-replicate _ (pos 0))
-held-fits p (fold left right C) = (
-  held-fits p left,
-  held-fits p right,
-  (
-    ((length-replicate _ (pos 0), length-replicate _ 0, length-replicate _ (pos 0)), length-replicate _ (pos 0)),
-    (length-replicate _ 0, length-replicate _ (pos 0)),
-    (length-replicate _ 0, length-replicate _ (pos 0)),
-    length-replicate _ (pos 0),
-  ),
-)
+held-fits p (fold left right C) = (held-fits p left, held-fits p right, before-fits p General)
+held-fits p (foldFresh left v C) = (held-fits p left, (length-replicate _ 0, length-replicate _ (pos 0)), before-fits p Fresh)
 
 -- the answer of a fold whose calls are all accepted
 says-yes : (said folded judged : Meaning) → said ≡ done → folded ≡ done → judged ≡ «yes» → «yes» ≡ foldAnswer said folded judged
@@ -42,6 +45,7 @@ plain-fits : (p : Parameters) (A : List ℕ) (t : Tree) → Proper p t → Fits 
 unfolding Proper plain
 plain-fits p A (leaf S) proper = proper .0
 plain-fits p A (fold left right C) proper = witness-fits p A (plain p left) (plain p right) C
+plain-fits p A (foldFresh left v C) proper = witness-fits p A (plain p left) (repeatedS p Fresh v) C
 
 module _ (p : Parameters) (A : List ℕ) (ok : settingRefusal p ≡ 0) (sizeA : Fits (matrixA p) A) where
   -- all that lova's theorem says of a tree

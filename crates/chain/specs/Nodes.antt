@@ -7,7 +7,9 @@ use lib.IntN.{ℤ, pos}
 use lib.ListN.{replicate}
 use Rattle.settings.specs.Settings.{Parameters}
 use Rattle.lova.specs.Answers.{Meaning, done, «yes», norm, commitment, long, products, member, refused, Outcome, ends}
-use Rattle.lova.specs.Stored.{Instance, Prepared, matrixT, matrixS, matrixD, matrixV, matrixS~, matrixT~, matrixD~}
+use Rattle.lova.specs.declared.Profile.{Profile}
+use Rattle.lova.specs.declared.Profile.the-variants.{General}
+use Rattle.lova.specs.Stored.{Instance, Prepared, matrixT, matrixS, matrixD, rightT, rightD, sentV, sentS~, sentT~, sentD~}
 use Rattle.lova.specs.Lent.{LentSlice}
 use Rattle.lova.specs.Calls.{Fits}
 use Rattle.lova.specs.Commit.{commit}
@@ -34,15 +36,21 @@ nodeBefore t d s = nodeOf (t .entry .now) (d .entry .now) (s .entry .now)
 abbrev pub nodeAfter : LentSlice ℕ → LentSlice ℤ → LentSlice ℤ → Node
 nodeAfter t d s = nodeOf (t .exit .now) (d .exit .now) (s .exit .now)
 
--- outputs of the stated lengths that hold zeros, as every call of a chain finds them
+-- outputs of the stated lengths that hold zeros, as every call of a chain finds them; a chain has general calls alone
+abbrev pub blankRight : Parameters → Profile → Instance
+blankRight p f = record { T = replicate (rightT p f .size) 0; D = replicate (rightD p f .size) (pos 0) }
+
 abbrev pub blankInstance : Parameters → Instance
-blankInstance p = record { T = replicate (matrixT p .size) 0; D = replicate (matrixD p .size) (pos 0) }
+blankInstance p = blankRight p General
+
+abbrev pub blankPreparedIn : Parameters → Profile → Prepared
+blankPreparedIn p f = record {
+  message = record { «V» = replicate (sentV p f .size) (pos 0); T~ = replicate (sentT~ p f .size) 0; D~ = replicate (sentD~ p f .size) (pos 0) };
+  S~ = replicate (sentS~ p f .size) (pos 0);
+}
 
 abbrev pub blankPrepared : Parameters → Prepared
-blankPrepared p = record {
-  message = record { «V» = replicate (matrixV p .size) (pos 0); T~ = replicate (matrixT~ p .size) 0; D~ = replicate (matrixD~ p .size) (pos 0) };
-  S~ = replicate (matrixS~ p .size) (pos 0);
-}
+blankPrepared p = blankPreparedIn p General
 
 abbrev pub blankWitness : Parameters → List ℤ
 blankWitness p = replicate (matrixS p .size) (pos 0)

@@ -7,16 +7,18 @@ use lib.IntN.{ℤ, pos}
 use lib.ListN.{replicate}
 use Rattle.settings.specs.Settings.{Parameters}
 use Rattle.text.specs.Fields.{recordOf, readU64, readI64, readTernary}
+use Rattle.lova.specs.declared.Profile.{Profile}
+use Rattle.lova.specs.declared.Profile.the-variants.{General, Fresh}
 use Rattle.lova.specs.Stored.{matrixA, matrixS, sizeC, joinedT, joinedD}
-use Rattle.lova.specs.Trees.{Tree, leaf, fold, Before, Held, seen, viewOf, leftWitness}
-use Rattle.chain.specs.Nodes.{Node, blankInstance, blankPrepared, blankWitness}
+use Rattle.lova.specs.Trees.{Tree, leaf, fold, foldFresh, Before, Held, seen, viewOf, leftWitness}
+use Rattle.chain.specs.Nodes.{Node, blankRight, blankInstance, blankPreparedIn, blankWitness}
 use Rattle.chain.specs.Reports.{leafWord}
 use Rattle.chain.specs.Chain.{paramWord, aWord, cWord, fromFive}
 
 -- what the calls of a fold, and all calls of a tree, find in their outputs: zeros
-abbrev pub blankBefore : Parameters → Before
-blankBefore p = record {
-  message = blankPrepared p;
+abbrev pub blankBefore : Parameters → Profile → Before
+blankBefore p f = record {
+  message = blankPreparedIn p f;
   join = record { T = replicate (joinedT p .size) 0; D = replicate (joinedD p .size) (pos 0) };
   verdict = blankInstance p;
   witness = blankWitness p;
@@ -24,7 +26,8 @@ blankBefore p = record {
 
 unfoldable pub blankHeld : (p : Parameters) (t : Tree) → Held t
 blankHeld p (leaf S) = blankInstance p
-blankHeld p (fold left right C) = (blankHeld p left, blankHeld p right, blankBefore p)
+blankHeld p (fold left right C) = (blankHeld p left, blankHeld p right, blankBefore p General)
+blankHeld p (foldFresh left v C) = (blankHeld p left, blankRight p Fresh, blankBefore p Fresh)
 
 -- the instance and the witness that the calls of a tree leave at its root
 unfoldable pub treeNode : Parameters → List ℕ → Tree → Node

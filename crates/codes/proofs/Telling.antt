@@ -13,12 +13,14 @@ use Rattle.integers.proofs.Tests.{and-fst, and-snd}
 use Rattle.settings.specs.Rules.{Rule, firstOf}
 use Rattle.settings.specs.Settings.{Parameters}
 use Rattle.lova.specs.Answers.{Meaning, done, «yes», member, refused, afterSetting, Outcome, ends, unlessRefused}
+use Rattle.lova.specs.declared.Profile.{Profile}
 use Rattle.lova.specs.Stored.{Instance, Message, Prepared, matrixS~}
-use Rattle.lova.specs.Commit.{commitRules, instanceOf, commit}
-use Rattle.lova.specs.Message.{messageRules, preparedOf, message}
-use Rattle.lova.specs.Witness.{witnessRules, foldedWitness, witness}
-use Rattle.lova.specs.Join.{joinRules, joinedInstance, join}
-use Rattle.lova.specs.Verdict.{verdictRules, diagonalsHold, firstHolds, secondHolds, foldedInstance, verdictBy, verdict}
+use Rattle.lova.specs.Repeats.{repeatedInstance, repeatedV, repeatedS~}
+use Rattle.lova.specs.Commit.{commitRules, instanceIn, commitIn}
+use Rattle.lova.specs.Message.{messageRules, preparedIn, messageIn}
+use Rattle.lova.specs.Witness.{witnessRules, foldedWitness, witnessIn}
+use Rattle.lova.specs.Join.{joinRules, joinedInstance, joinIn}
+use Rattle.lova.specs.Verdict.{verdictRules, verdictBy, judgedIn, verdictIn}
 use Rattle.lova.specs.Tests.{short}
 use Rattle.lova.specs.Relation.{relationRules, productsHold, commitmentHolds, memberWord, relation}
 use Rattle.codes.specs.Codes.{codeOf, meaningOf}
@@ -60,25 +62,25 @@ done-told : Told done done
 unfolding codeOf meaningOf
 done-told = refl
 
-module _ (p : Parameters) (A : List ℕ) (S : List ℤ) (out : Instance) where
-  pub commit-told : Told done ((commit p A S out) .answer)
-  unfolding commit commitRules
-  commit-told = call-told done out (ends done (instanceOf p A S)) done-told (afterSetting p (commitRules p A S out)) tt
+module _ (p : Parameters) (f : Profile) (A : List ℕ) (S : List ℤ) (out : Instance) where
+  pub commit-told : Told done ((commitIn p f A S out) .answer)
+  unfolding commitIn commitRules
+  commit-told = call-told done out (ends done (instanceIn p f A S)) done-told (afterSetting p (commitRules p f A S out)) tt
 
-module _ (p : Parameters) (A : List ℕ) (S₁ S₂ : List ℤ) (out : Prepared) where
-  pub message-told : Told done ((message p A S₁ S₂ out) .answer)
-  unfolding message messageRules
-  message-told = call-told done out (ends done (preparedOf p A S₁ S₂)) done-told (afterSetting p (messageRules p A S₁ S₂ out)) tt
+module _ (p : Parameters) (f : Profile) (A : List ℕ) (S₁ S₂ : List ℤ) (out : Prepared) where
+  pub message-told : Told done ((messageIn p f A S₁ S₂ out) .answer)
+  unfolding messageIn messageRules
+  message-told = call-told done out (ends done (preparedIn p f A S₁ S₂)) done-told (afterSetting p (messageRules p f A S₁ S₂ out)) tt
 
-module _ (p : Parameters) (S~ : List ℤ) (C : List ℕ) (out : List ℤ) where
-  pub witness-told : Told done ((witness p S~ C out) .answer)
-  unfolding witness witnessRules
-  witness-told = call-told done out (ends done (foldedWitness p (matrixS~ p .read S~) C)) done-told (afterSetting p (witnessRules p S~ C out)) tt
+module _ (p : Parameters) (f : Profile) (S~ : List ℤ) (C : List ℕ) (out : List ℤ) where
+  pub witness-told : Told done ((witnessIn p f S~ C out) .answer)
+  unfolding witnessIn witnessRules
+  witness-told = call-told done out (ends done (foldedWitness p (matrixS~ p .read (repeatedS~ p f S~)) C)) done-told (afterSetting p (witnessRules p f S~ C out)) tt
 
-module _ (p : Parameters) (I₁ I₂ : Instance) («V» : List ℤ) (out : Instance) where
-  pub join-told : Told done ((join p I₁ I₂ «V» out) .answer)
-  unfolding join joinRules
-  join-told = call-told done out (ends done (joinedInstance p I₁ I₂ «V»)) done-told (afterSetting p (joinRules p I₁ I₂ «V» out)) tt
+module _ (p : Parameters) (f : Profile) (I₁ I₂ : Instance) («V» : List ℤ) (out : Instance) where
+  pub join-told : Told done ((joinIn p f I₁ I₂ «V» out) .answer)
+  unfolding joinIn joinRules
+  join-told = call-told done out (ends done (joinedInstance p I₁ (repeatedInstance p f I₂) (repeatedV p f «V»))) done-told (afterSetting p (joinRules p f I₁ I₂ «V» out)) tt
 
 verdict-words : (within first second : Bool) (before after : Instance) → Told «yes» ((verdictBy within first second before after) .answer)
 unfolding verdictBy codeOf meaningOf
@@ -87,12 +89,14 @@ verdict-words true false second before after = refl
 verdict-words true true false before after = refl
 verdict-words true true true before after = refl
 
-module _ (p : Parameters) (I₁ I₂ : Instance) (M : Message) (C : List ℕ) (out : Instance) where
-  pub verdict-told : Told «yes» ((verdict p I₁ I₂ M C out) .answer)
-  unfolding verdict verdictRules
-  verdict-told =
-      let holds = verdict-words (diagonalsHold p I₁ I₂) (firstHolds p I₁ I₂ M) (secondHolds p I₁ I₂ M) out (foldedInstance p M C) in
-      call-told «yes» out (verdictBy (diagonalsHold p I₁ I₂) (firstHolds p I₁ I₂ M) (secondHolds p I₁ I₂ M) out (foldedInstance p M C)) holds (afterSetting p (verdictRules p I₁ I₂ M C out)) tt
+module _ (p : Parameters) (f : Profile) (I₁ I₂ : Instance) (M : Message) (C : List ℕ) (out : Instance) where
+  judged-told : Told «yes» ((judgedIn p f I₁ I₂ M C out) .answer)
+  unfolding judgedIn
+  judged-told = verdict-words _ _ _ out _
+
+  pub verdict-told : Told «yes» ((verdictIn p f I₁ I₂ M C out) .answer)
+  unfolding verdictIn verdictRules
+  verdict-told = call-told «yes» out (judgedIn p f I₁ I₂ M C out) judged-told (afterSetting p (verdictRules p f I₁ I₂ M C out)) tt
 
 member-words : (isShort holdsD holdsT : Bool) → Told member (memberWord isShort holdsD holdsT)
 unfolding memberWord codeOf meaningOf

@@ -20,7 +20,7 @@ use Rattle.lova.specs.Fold.{beside, digitWitness}
 use Rattle.lova.proofs.Blocks.{beside-left, beside-right}
 
 -- with as many columns on the right as on the left the digit witness has N columns, and with fewer no more than N
-pub both-wide : (p : Parameters) → (p .t + p .t) * kOf p ≡ NOf p
+both-wide : (p : Parameters) → (p .t + p .t) * kOf p ≡ NOf p
 both-wide p = omega arith
 
 pub wide-high : (p : Parameters) (right : ℕ) → right ≤ p .t → (p .t + right) * kOf p ≤ NOf p

@@ -1,6 +1,6 @@
 -- The test of one entry: of signed words, and what its answer says in a loop over rows and columns.
 use borrow.Author.Tests.{not-true, not-false}
-use mathlib.Core.Path.{_≡_, refl, sym, _∙_, subst}
+use mathlib.Core.Path.{_≡_, sym, _∙_, subst}
 use mathlib.Core.Logic.{_↔_}
 use mathlib.Core.Bool.{Bool, true, false, not}
 use Prim.Native.Nat.{ℕ, _+_, _<_}
@@ -8,16 +8,10 @@ use lib.Dec.{T, eqb}
 use lib.IntN.{ℤ}
 use mir.Syntax.{w64}
 use mir.Val.{SFits, ofZ}
+use Rattle.integers.proofs.Tests.{same-test}
 use Rattle.lova.specs.Tests.{every, eqZ}
 use Rattle.lova.proofs.Tests.{eqb-iff, eqZ-iff}
 use Rattle.lova.proofs.Comparisons.{EqualBefore, equal-more, unequal-at, bits-iff}
-
--- tests that imply each other are equal
-same-test : (a c : Bool) → (T a → T c) → (T c → T a) → a ≡ c
-same-test true true f g = refl
-same-test true false f g = absurd (f tt)
-same-test false true f g = absurd (g tt)
-same-test false false f g = refl
 
 -- signed words are compared by their bits
 pub bits-test : (x y : ℤ) → SFits w64 x → SFits w64 y → eqb (ofZ w64 x) (ofZ w64 y) ≡ eqZ x y

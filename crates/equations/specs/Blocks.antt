@@ -5,14 +5,17 @@ use Prim.Native.Nat.{ℕ, _+_, _*_}
 use lib.IntN.{ℤ, pos, _*ℤ_}
 use lib.ListN.{getD}
 use Rattle.integers.specs.Sums.{sum}
-use Rattle.settings.specs.Settings.{Parameters, kOf, NOf, settingRefusal, powersOf}
+use Rattle.settings.specs.Settings.{Parameters, kOf, settingRefusal, powersOf}
+use Rattle.lova.specs.Stored.{rightOf, columnsOf}
+use Rattle.lova.specs.declared.Profile.{Profile}
 
--- t, k, N and the powers are those of p, which is accepted: what a comparison is handed in place of a setting
-pub record Handed (p : Parameters) (t k columns : ℕ) (powers : List ℕ) : Type 0 where
+-- the numbers and powers are those of p, which is accepted, and of the profile f: what a comparison is handed in place of both
+pub record Handed (p : Parameters) (f : Profile) (t right k columns : ℕ) (powers : List ℕ) : Type 0 where
   pub ok : settingRefusal p ≡ 0
   pub t-is : t ≡ p .t
+  pub right-is : right ≡ rightOf p f
   pub k-is : k ≡ kOf p
-  pub N-is : columns ≡ NOf p
+  pub wide-is : columns ≡ columnsOf p f
   pub powers-are : powers ≡ powersOf (p .b) (kOf p)
 
 module _ (x : List ℤ) (columns : ℕ) (powers : List ℕ) (k i j : ℕ) where

@@ -8,6 +8,7 @@ ghost use Rattle.lova.specs.Calls.{Rebuilt};
 ghost use Rattle.chain.specs.Limits.{small, programLimits};
 ghost use Rattle.chain.specs.Nodes.{nodeBefore, nodeAfter, foldAnswer, callsOf};
 use lova::Answer;
+use lova::Profile;
 use lova::Verdict;
 use settings::Setting;
 
@@ -56,6 +57,7 @@ pub(crate) fn calls(
     let size_ss = setting.m * setting.columns;
     let said = messages::message(
         setting,
+        Profile::General,
         a,
         s1,
         s2,
@@ -64,9 +66,10 @@ pub(crate) fn calls(
         &mut dd[..size_dd],
         &mut ss[..size_ss],
     );
-    let folded = witnesses::fold_witness(setting, &ss[..size_ss], c, s);
+    let folded = witnesses::fold_witness(setting, Profile::General, &ss[..size_ss], c, s);
     let judged = verdicts::verify(
         setting,
+        Profile::General,
         t1,
         d1,
         t2,

@@ -53,3 +53,10 @@ leb-same a b c d e = go (decLe a b)
     go : Dec (a ≤ b) → leb a b ≡ leb c d
     go (yes h) = le-leb a b h ∙ sym (le-leb c d (e .0 h))
     go (no f) = lt-leb a b (lt-of-not-le f) ∙ sym (lt-leb c d (lt-of-not-le (λ h. f (e .1 h))))
+
+-- equivalent tests are equal
+pub same-test : (a b : Bool) → (T a → T b) → (T b → T a) → a ≡ b
+same-test true true f g = refl
+same-test true false f g = absurd (f tt)
+same-test false true f g = absurd (g tt)
+same-test false false f g = refl

@@ -1,4 +1,4 @@
-// Join: [T1 T2] and [D1 V; V-transposed D2], written out.
+// Join: [T1 T2] and [D1 V; V-transposed D2], written out; n by 2t and 2t by 2t in both profiles.
 ghost use mathlib.Core.Path.{_≡_};
 ghost use Rattle.settings.specs.Rules.{firstOf};
 ghost use Rattle.settings.specs.Settings.{parametersOf};
@@ -6,11 +6,13 @@ ghost use Rattle.lova.specs.Answers.{ends, answerOf};
 ghost use Rattle.lova.specs.Lent.{instanceBefore, instanceAfter};
 ghost use Rattle.lova.specs.Tests.{fitsJoined};
 ghost use Rattle.lova.specs.Calls.{Rebuilt};
-ghost use Rattle.lova.specs.Join.{joinRules, join};
+ghost use Rattle.lova.specs.Join.{joinRules, joinIn};
 
 mod joined;
+mod spreads;
 
 use lova::Answer;
+use lova::Profile;
 use settings::Setting;
 
 // Whether t and d have the lengths of the joined T and D.
@@ -25,6 +27,7 @@ fn joined_fits(setting: Setting, t: &[u64], d: &[i64]) -> bool
 // 7 where a slice has not the length of its matrix, else 0.
 fn join_refusal(
     setting: Setting,
+    profile: Profile,
     t1: &[u64],
     d1: &[i64],
     t2: &[u64],
@@ -35,16 +38,17 @@ fn join_refusal(
 ) -> u8
     requires { ⌜ Rebuilt setting ⌝ }
     ensures { λ r. ⌜ r
-        ≡ firstOf (joinRules (parametersOf setting) (instanceBefore t1 d1) (instanceBefore t2 d2)
+        ≡ firstOf (joinRules (parametersOf setting) profile (instanceBefore t1 d1) (instanceBefore t2 d2)
         (now (v .entry)) (instanceBefore t d)) ⌝ }
 {
-    if !scans::instance_fits(setting, t1, d1) {
+    if !scans::instance_fits(setting, Profile::General, t1, d1) {
         return 7;
     }
-    if !scans::instance_fits(setting, t2, d2) {
+    if !scans::instance_fits(setting, profile, t2, d2) {
         return 7;
     }
-    if v.len() != setting.t * setting.t {
+    let right = profile.right(setting.t);
+    if v.len() != setting.t * right {
         return 7;
     }
     if !joined_fits(setting, t, d) {
@@ -56,6 +60,7 @@ fn join_refusal(
 // Writes the joined t and d of two instances and v.
 pub fn join(
     setting: Setting,
+    profile: Profile,
     t1: &[u64],
     d1: &[i64],
     t2: &[u64],
@@ -65,20 +70,20 @@ pub fn join(
     d: &mut [i64],
 ) -> Answer
     ensures { λ r. ⌜ ends (answerOf r) (instanceAfter t d)
-        ≡ join (parametersOf setting) (instanceBefore t1 d1) (instanceBefore t2 d2)
+        ≡ joinIn (parametersOf setting) profile (instanceBefore t1 d1) (instanceBefore t2 d2)
         (now (v .entry)) (instanceBefore t d) ⌝ }
 {
-    let fresh = setting.rebuilt();
-    let number = fresh.refusal;
+    let checked = setting.rebuilt();
+    let number = checked.refusal;
     if number != 0 {
         return Answer::Refused(number);
     }
-    let accepted = fresh.setting;
-    let own = join_refusal(accepted, t1, d1, t2, d2, v, t, d);
+    let accepted = checked.setting;
+    let own = join_refusal(accepted, profile, t1, d1, t2, d2, v, t, d);
     if own != 0 {
         return Answer::Refused(own);
     }
-    joined::write_t(t1, t2, accepted.n, accepted.t, t);
-    joined::write_d(accepted, d1, v, d2, d);
+    joined::write_t(profile, t1, t2, accepted.n, accepted.t, t);
+    joined::write_d(accepted, profile, d1, v, d2, d);
     Answer::Done
 }

@@ -12,11 +12,14 @@ use Rattle.matrices.proofs.Bounds.{gram-diagonal}
 use Rattle.settings.specs.Rules.{firstOf}
 use Rattle.settings.specs.Settings.{Parameters}
 use Rattle.lova.specs.Answers.{afterSetting, «yes», norm, commitment, long, products, member, Outcome, ends}
+use Rattle.lova.specs.declared.Profile.{Profile}
+use Rattle.lova.specs.declared.Profile.the-variants.{General}
 use Rattle.lova.specs.Stored.{Instance, Message, matrixS, matrixD}
+use Rattle.lova.specs.Repeats.{repeatedInstance, repeatedMessage}
 use Rattle.lova.specs.Tests.{short}
 use Rattle.lova.specs.Calls.{Short, ProperRelation, ProperVerdict}
 use Rattle.lova.specs.Relation.{Related, ProductsAgree, CommitmentAgrees, productsHold, commitmentHolds, memberWord, relation}
-use Rattle.lova.specs.Verdict.{Diagonals, FirstEquation, SecondEquation, diagonalsHold, firstHolds, secondHolds, verdictRules, foldedInstance, verdictBy, verdict}
+use Rattle.lova.specs.Verdict.{Diagonals, FirstEquation, SecondEquation, diagonalsHold, firstHolds, secondHolds, verdictRules, foldedInstance, verdictBy, judgedIn, verdictIn}
 use Rattle.lova.proofs.Tests.{equal-iff, equal-words-iff, short-iff, diagonals-iff}
 use Rattle.lova.proofs.Refusals.{Ended, ends-so, untouched, relation-proper, verdict-proper}
 use Rattle.lova.proofs.ThreeTests.{answerBy, rankOf, first-fails, second-fails, third-fails, none-fails, answer-ended}
@@ -56,61 +59,68 @@ module _ (before after : Instance) where
   outputs-by true false c = inr refl
   outputs-by false b c = inr refl
 
-module _ (p : Parameters) (I₁ I₂ : Instance) (M : Message) where
+module _ (p : Parameters) (f : Profile) (I₁ I₂ : Instance) (M : Message) where
+  -- what is fresh, repeated
+  abbrev R₂ : Instance
+  R₂ = repeatedInstance p f I₂
+
+  abbrev R : Message
+  R = repeatedMessage p f M
+
   -- the three tests
   abbrev diagonals : Bool
-  diagonals = diagonalsHold p I₁ I₂
+  diagonals = diagonalsHold p I₁ R₂
 
   abbrev first : Bool
-  first = firstHolds p I₁ I₂ M
+  first = firstHolds p I₁ R₂ R
 
   abbrev second : Bool
-  second = secondHolds p I₁ I₂ M
+  second = secondHolds p I₁ R₂ R
 
-  first-iff : T first ↔ FirstEquation p I₁ I₂ M
+  first-iff : T first ↔ FirstEquation p I₁ R₂ R
   unfolding firstHolds
   first-iff = equal-iff _ _ _ _
 
-  second-iff : T second ↔ SecondEquation p I₁ I₂ M
+  second-iff : T second ↔ SecondEquation p I₁ R₂ R
   unfolding secondHolds
   second-iff = equal-words-iff _ _ _ _
 
   module _ (C : List ℕ) (out : Instance) where
     -- what the verdict ends with where no rule applies
     abbrev result : Outcome Instance
-    result = verdictBy diagonals first second out (foldedInstance p M C)
+    result = verdictBy diagonals first second out (foldedInstance p R C)
 
     pub verdict-ended : Ended (result .answer)
-    verdict-ended r e = answer-ended norm «yes» norm-second yes-fourth diagonals first second r (sym (verdict-word out (foldedInstance p M C) diagonals first second) ∙ e)
+    verdict-ended r e = answer-ended norm «yes» norm-second yes-fourth diagonals first second r (sym (verdict-word out (foldedInstance p R C) diagonals first second) ∙ e)
 
     -- whenever the answer is not yes, T' and D' are what they were; where it is, they are the folded instance
-    pub verdict-outputs : (verdict p I₁ I₂ M C out ≡ ends «yes» (foldedInstance p M C)) ⊎ ((verdict p I₁ I₂ M C out) .outputs ≡ out)
-    unfolding verdict
-    verdict-outputs = go (untouched out _ (firstOf (afterSetting p (verdictRules p I₁ I₂ M C out))))
+    pub verdict-outputs : (verdictIn p f I₁ I₂ M C out ≡ ends «yes» (foldedInstance p R C)) ⊎ ((verdictIn p f I₁ I₂ M C out) .outputs ≡ out)
+    unfolding verdictIn judgedIn
+    verdict-outputs = go (untouched out _ (firstOf (afterSetting p (verdictRules p f I₁ I₂ M C out))))
       where
-        go : (verdict p I₁ I₂ M C out ≡ result) ⊎ ((verdict p I₁ I₂ M C out) .outputs ≡ out)
-            → (verdict p I₁ I₂ M C out ≡ ends «yes» (foldedInstance p M C)) ⊎ ((verdict p I₁ I₂ M C out) .outputs ≡ out)
-        go (inl e) = rw e (outputs-by out (foldedInstance p M C) diagonals first second)
+        go : (verdictIn p f I₁ I₂ M C out ≡ result) ⊎ ((verdictIn p f I₁ I₂ M C out) .outputs ≡ out)
+            → (verdictIn p f I₁ I₂ M C out ≡ ends «yes» (foldedInstance p R C)) ⊎ ((verdictIn p f I₁ I₂ M C out) .outputs ≡ out)
+        go (inl e) = rw e (outputs-by out (foldedInstance p R C) diagonals first second)
         go (inr e) = inr e
 
-    module _ (proper : ProperVerdict p I₁ I₂ M C out) where
-      says : (verdict p I₁ I₂ M C out) .answer ≡ answerBy norm «yes» diagonals first second
-      unfolding verdict
+    module _ (proper : ProperVerdict p f I₁ I₂ M C out) where
+      says : (verdictIn p f I₁ I₂ M C out) .answer ≡ answerBy norm «yes» diagonals first second
+      unfolding verdictIn judgedIn
       says =
-          ap (λ (o : Outcome Instance). o .answer) (ends-so out _ _ (verdict-proper p I₁ I₂ M C out .1 proper))
-          ∙ verdict-word out (foldedInstance p M C) diagonals first second
+          ap (λ (o : Outcome Instance). o .answer) (ends-so out _ _ (verdict-proper p f I₁ I₂ M C out .1 proper))
+          ∙ verdict-word out (foldedInstance p R C) diagonals first second
 
-      pub yes-exactly : ((verdict p I₁ I₂ M C out) .answer ≡ «yes») ↔ (Diagonals p I₁ I₂ × FirstEquation p I₁ I₂ M × SecondEquation p I₁ I₂ M)
-      yes-exactly = rw says (none-fails norm «yes» norm-second yes-fourth diagonals first second (diagonals-iff p I₁ I₂) first-iff second-iff)
+      pub yes-exactly : ((verdictIn p f I₁ I₂ M C out) .answer ≡ «yes») ↔ (Diagonals p I₁ R₂ × FirstEquation p I₁ R₂ R × SecondEquation p I₁ R₂ R)
+      yes-exactly = rw says (none-fails norm «yes» norm-second yes-fourth diagonals first second (diagonals-iff p I₁ R₂) first-iff second-iff)
 
-      pub long-exactly : ((verdict p I₁ I₂ M C out) .answer ≡ long) ↔ (Diagonals p I₁ I₂ → ⊥)
-      long-exactly = rw says (first-fails norm «yes» norm-second yes-fourth diagonals first second (diagonals-iff p I₁ I₂))
+      pub long-exactly : ((verdictIn p f I₁ I₂ M C out) .answer ≡ long) ↔ (Diagonals p I₁ R₂ → ⊥)
+      long-exactly = rw says (first-fails norm «yes» norm-second yes-fourth diagonals first second (diagonals-iff p I₁ R₂))
 
-      pub norm-exactly : ((verdict p I₁ I₂ M C out) .answer ≡ norm) ↔ (Diagonals p I₁ I₂ × (FirstEquation p I₁ I₂ M → ⊥))
-      norm-exactly = rw says (second-fails norm «yes» norm-second yes-fourth diagonals first second (diagonals-iff p I₁ I₂) first-iff)
+      pub norm-exactly : ((verdictIn p f I₁ I₂ M C out) .answer ≡ norm) ↔ (Diagonals p I₁ R₂ × (FirstEquation p I₁ R₂ R → ⊥))
+      norm-exactly = rw says (second-fails norm «yes» norm-second yes-fourth diagonals first second (diagonals-iff p I₁ R₂) first-iff)
 
-      pub commitment-exactly : ((verdict p I₁ I₂ M C out) .answer ≡ commitment) ↔ (Diagonals p I₁ I₂ × FirstEquation p I₁ I₂ M × (SecondEquation p I₁ I₂ M → ⊥))
-      commitment-exactly = rw says (third-fails norm «yes» norm-second yes-fourth diagonals first second (diagonals-iff p I₁ I₂) first-iff second-iff)
+      pub commitment-exactly : ((verdictIn p f I₁ I₂ M C out) .answer ≡ commitment) ↔ (Diagonals p I₁ R₂ × FirstEquation p I₁ R₂ R × (SecondEquation p I₁ R₂ R → ⊥))
+      commitment-exactly = rw says (third-fails norm «yes» norm-second yes-fourth diagonals first second (diagonals-iff p I₁ R₂) first-iff second-iff)
 
 -- ---- the relation test
 
@@ -160,15 +170,15 @@ module _ (p : Parameters) (A : List ℕ) (I : Instance) (S : List ℤ) where
     -- member if and only if relation (1) holds
     pub member-exactly : ((relation p A I S) .answer ≡ member) ↔ Related p A I S
     member-exactly = rw answers (
-        let b = none-fails products member products-second member-fourth (short p S) productsAre commitmentIs (short-iff p S) products-iff commitment-iff in
+        let b = none-fails products member products-second member-fourth (short p S) productsAre commitmentIs (short-iff p General S) products-iff commitment-iff in
         ((λ e. related-iff .0 (b .0 e)), (λ r. b .1 (related-iff .1 r)))
         )
 
     pub relation-long-exactly : ((relation p A I S) .answer ≡ long) ↔ (Short p S → ⊥)
-    relation-long-exactly = rw answers (first-fails products member products-second member-fourth (short p S) productsAre commitmentIs (short-iff p S))
+    relation-long-exactly = rw answers (first-fails products member products-second member-fourth (short p S) productsAre commitmentIs (short-iff p General S))
 
     pub products-exactly : ((relation p A I S) .answer ≡ products) ↔ (Short p S × (ProductsAgree p A I S → ⊥))
-    products-exactly = rw answers (second-fails products member products-second member-fourth (short p S) productsAre commitmentIs (short-iff p S) products-iff)
+    products-exactly = rw answers (second-fails products member products-second member-fourth (short p S) productsAre commitmentIs (short-iff p General S) products-iff)
 
     pub relation-commitment-exactly : ((relation p A I S) .answer ≡ commitment) ↔ (Short p S × ProductsAgree p A I S × (CommitmentAgrees p A I S → ⊥))
-    relation-commitment-exactly = rw answers (third-fails products member products-second member-fourth (short p S) productsAre commitmentIs (short-iff p S) products-iff commitment-iff)
+    relation-commitment-exactly = rw answers (third-fails products member products-second member-fourth (short p S) productsAre commitmentIs (short-iff p General S) products-iff commitment-iff)

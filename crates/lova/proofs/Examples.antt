@@ -1,5 +1,6 @@
 -- The definitions at whole folds that an independent program computed (reference/, `vectors`, seed 1): two at t = 1, two at t = 2, where
--- power-first order or V for its transpose would show. And the answers to a changed T~ and a changed D~, and to a long diagonal.
+-- power-first order or V for its transpose would show. And the answers to a changed T~ and a changed D~, and to a long diagonal. The last
+-- example is the one before it with a fresh right leaf, v the first column of its S2.
 use mathlib.Core.Path.{_≡_, refl}
 use mathlib.Core.List.{List, [], _∷_}
 use Prim.Native.Nat.{ℕ, suc, _-_}
@@ -13,17 +14,20 @@ use Rattle.settings.specs.Rules.{firstOf}
 use Rattle.settings.specs.Settings.{Parameters, greatest, LOf, repunit}
 use Rattle.settings.specs.HouseList.{parameters}
 use Rattle.digits.specs.Digits.{stepOf, restOf, digitOf}
+use Rattle.lova.specs.declared.Profile.{Profile}
+use Rattle.lova.specs.declared.Profile.the-variants.{General, Fresh}
 use Rattle.lova.specs.Answers.{done, «yes», norm, commitment, long, member, ends, unlessRefused}
 use Rattle.lova.specs.Stored.{Instance, Message, Prepared}
-use Rattle.lova.specs.Tests.{all, every, eqZ, short, diagonalWithin, areTernary}
+use Rattle.lova.specs.Tests.{all, every, eqZ, shortRight, diagonalWithin, areTernary}
 use Rattle.lova.specs.Fold.{beside, above, digitWitness, gadget}
-use Rattle.lova.specs.Commit.{commitRules, instanceOf, commit}
+use Rattle.lova.specs.Repeats.{placeOf}
+use Rattle.lova.specs.Commit.{commitRules, instanceIn, commitIn}
 use Rattle.lova.specs.Relation.{relationRules, productsHold, commitmentHolds, memberWord, relation}
-use Rattle.lova.specs.Join.{joinRules, joinedInstance, join}
-use Rattle.lova.specs.Message.{messageRules, preparedOf, message}
-use Rattle.lova.specs.Verdict.{verdictRules, diagonalsHold, firstHolds, secondHolds, foldedInstance, verdictBy, verdict}
-use Rattle.lova.specs.Witness.{witnessRules, foldedWitness, witness}
-use Rattle.lova.specs.Trees.{leaf, fold, plain}
+use Rattle.lova.specs.Join.{joinRules, joinedInstance, joinIn}
+use Rattle.lova.specs.Message.{messageRules, preparedIn, messageIn}
+use Rattle.lova.specs.Verdict.{verdictRules, diagonalsHold, firstHolds, secondHolds, foldedInstance, verdictBy, verdictIn, judgedIn}
+use Rattle.lova.specs.Witness.{witnessRules, foldedWitness, witnessIn}
+use Rattle.lova.specs.Trees.{Tree, leaf, fold, foldFresh, plain}
 
 -- a fold: what goes in and what comes out; `T~₁` and `D~₁` are other values for entry 1 of T~ and of D~
 record Example : Type 0 where
@@ -49,21 +53,26 @@ changed e = record { «V» = e .said .message .«V»; T~ = set (e .said .message
 abbrev lengthened : ℕ → ℕ → Instance → Instance
 lengthened place number I = record { T = I .T; D = set (I .D) place (pos number) }
 
+-- the tree of two leaves, or of a leaf and a fresh one
+abbrev ofTwo : Profile → List ℤ → List ℤ → List ℕ → Tree
+ofTwo General S₁ S₂ C = fold (leaf S₁) (leaf S₂) C
+ofTwo Fresh S₁ v C = foldFresh (leaf S₁) v C
+
 -- all six operations and the plain tree give these values, whatever number x, y the outputs held
-record Right (e : Example) : Type 0 where
-  commits₁ : (x : ℕ) (y : ℤ) → commit (e .setting) (e .A) (e .S₁) (record { T = replicate (length (e .I₁ .T)) x; D = replicate (length (e .I₁ .D)) y }) ≡ ends done (e .I₁)
-  commits₂ : (x : ℕ) (y : ℤ) → commit (e .setting) (e .A) (e .S₂) (record { T = replicate (length (e .I₁ .T)) x; D = replicate (length (e .I₁ .D)) y }) ≡ ends done (e .I₂)
-  messages : message (e .setting) (e .A) (e .S₁) (e .S₂) (e .said) ≡ ends done (e .said)
-  joins : join (e .setting) (e .I₁) (e .I₂) (e .said .message .«V») (e .joined) ≡ ends done (e .joined)
-  agrees : verdict (e .setting) (e .I₁) (e .I₂) (e .said .message) (e .C) (e .I₁) ≡ ends «yes» (e .folded)
-  commitment-only : verdict (e .setting) (e .I₁) (e .I₂) (record { «V» = e .said .message .«V»; T~ = set (e .said .message .T~) 1 (e .T~₁); D~ = e .said .message .D~ }) (e .C) (e .I₁) ≡ ends commitment (e .I₁)
-  norm-first : verdict (e .setting) (e .I₁) (e .I₂) (changed e) (e .C) (e .I₁) ≡ ends norm (e .I₁)
-  long-before-norm : verdict (e .setting) (lengthened 0 (suc (e .setting .bound)) (e .I₁)) (e .I₂) (changed e) (e .C) (e .I₁) ≡ ends long (e .I₁)
-  long-second : verdict (e .setting) (e .I₁) (lengthened (length (e .I₂ .D) - 1) (suc (e .setting .bound)) (e .I₂)) (e .said .message) (e .C) (e .I₁) ≡ ends long (e .I₁)
-  border-is-norm : verdict (e .setting) (lengthened 0 (e .setting .bound) (e .I₁)) (e .I₂) (changed e) (e .C) (e .I₁) ≡ ends norm (e .I₁)
-  folds : witness (e .setting) (e .said .S~) (e .C) (e .S₁) ≡ ends done (e .S′)
+record Right (f : Profile) (e : Example) : Type 0 where
+  commits₁ : (x : ℕ) (y : ℤ) → commitIn (e .setting) General (e .A) (e .S₁) (record { T = replicate (length (e .I₁ .T)) x; D = replicate (length (e .I₁ .D)) y }) ≡ ends done (e .I₁)
+  commits₂ : (x : ℕ) (y : ℤ) → commitIn (e .setting) f (e .A) (e .S₂) (record { T = replicate (length (e .I₂ .T)) x; D = replicate (length (e .I₂ .D)) y }) ≡ ends done (e .I₂)
+  messages : messageIn (e .setting) f (e .A) (e .S₁) (e .S₂) (e .said) ≡ ends done (e .said)
+  joins : joinIn (e .setting) f (e .I₁) (e .I₂) (e .said .message .«V») (e .joined) ≡ ends done (e .joined)
+  agrees : verdictIn (e .setting) f (e .I₁) (e .I₂) (e .said .message) (e .C) (e .I₁) ≡ ends «yes» (e .folded)
+  commitment-only : verdictIn (e .setting) f (e .I₁) (e .I₂) (record { «V» = e .said .message .«V»; T~ = set (e .said .message .T~) 1 (e .T~₁); D~ = e .said .message .D~ }) (e .C) (e .I₁) ≡ ends commitment (e .I₁)
+  norm-first : verdictIn (e .setting) f (e .I₁) (e .I₂) (changed e) (e .C) (e .I₁) ≡ ends norm (e .I₁)
+  long-before-norm : verdictIn (e .setting) f (lengthened 0 (suc (e .setting .bound)) (e .I₁)) (e .I₂) (changed e) (e .C) (e .I₁) ≡ ends long (e .I₁)
+  long-second : verdictIn (e .setting) f (e .I₁) (lengthened (length (e .I₂ .D) - 1) (suc (e .setting .bound)) (e .I₂)) (e .said .message) (e .C) (e .I₁) ≡ ends long (e .I₁)
+  border-is-norm : verdictIn (e .setting) f (lengthened 0 (e .setting .bound) (e .I₁)) (e .I₂) (changed e) (e .C) (e .I₁) ≡ ends norm (e .I₁)
+  folds : witnessIn (e .setting) f (e .said .S~) (e .C) (e .S₁) ≡ ends done (e .S′)
   members : (relation (e .setting) (e .A) (e .folded) (e .S′)) .answer ≡ member
-  plain-tree : plain (e .setting) (fold (leaf (e .S₁)) (leaf (e .S₂)) (e .C)) ≡ e .S′
+  plain-tree : plain (e .setting) (ofTwo f (e .S₁) (e .S₂) (e .C)) ≡ e .S′
 
 abbrev oneByTwo : Example
 oneByTwo = record {
@@ -133,18 +142,29 @@ twoByTwo = record {
   D~₁ = negsuc 8;
 }
 
-oneByTwo-right : Right oneByTwo
-unfolding build sum sumℕ residue table ternary firstOf greatest LOf repunit stepOf restOf digitOf unlessRefused all every eqZ short diagonalWithin areTernary beside above digitWitness gadget commitRules instanceOf commit relationRules productsHold commitmentHolds memberWord relation joinRules joinedInstance join messageRules preparedOf message verdictRules diagonalsHold firstHolds secondHolds foldedInstance verdictBy verdict witnessRules foldedWitness witness plain
-oneByTwo-right = record { commits₁ = λ x y. refl; commits₂ = λ x y. refl; messages = refl; joins = refl; agrees = refl; commitment-only = refl; norm-first = refl; long-before-norm = refl; long-second = refl; border-is-norm = refl; folds = refl; members = refl; plain-tree = refl }
+abbrev freshRight : Example
+freshRight = record {
+  setting = parameters 1 2 2 9 4608;
+  A = (5942725010048944318 ∷ 4 ∷ []);
+  S₁ = (pos 67 ∷ negsuc 43 ∷ negsuc 6 ∷ negsuc 37 ∷ []);
+  S₂ = (pos 35 ∷ negsuc 30 ∷ []);
+  C = (2 ∷ 2 ∷ 0 ∷ 1 ∷ 2 ∷ 2 ∷ 2 ∷ 2 ∷ 1 ∷ 2 ∷ 1 ∷ 0 ∷ 2 ∷ 0 ∷ 2 ∷ 2 ∷ 2 ∷ 0 ∷ 1 ∷ 1 ∷ 1 ∷ 2 ∷ 1 ∷ 0 ∷ []);
+  I₁ = record { T = (10780950125378685342 ∷ 15221260663489724096 ∷ []); D = (pos 4538 ∷ negsuc 2681 ∷ negsuc 2681 ∷ pos 3380 ∷ []) };
+  I₂ = record { T = (5081190540907983230 ∷ []); D = (pos 2186 ∷ []) };
+  said = record { message = record { «V» = (pos 2562 ∷ negsuc 361 ∷ []); T~ = (5324155966486225664 ∷ 6561294053611662976 ∷ 5942725010048944318 ∷ 5942725010048944310 ∷ 5324155966486225640 ∷ 12504019063660607298 ∷ 12504019063660607282 ∷ 5324155966486225644 ∷ 0 ∷ []); D~ = (pos 20 ∷ negsuc 9 ∷ pos 4 ∷ pos 0 ∷ pos 8 ∷ negsuc 3 ∷ negsuc 11 ∷ pos 10 ∷ pos 0 ∷ negsuc 9 ∷ pos 5 ∷ negsuc 1 ∷ pos 0 ∷ negsuc 3 ∷ pos 2 ∷ pos 6 ∷ negsuc 4 ∷ pos 0 ∷ pos 4 ∷ negsuc 1 ∷ pos 1 ∷ pos 1 ∷ pos 4 ∷ negsuc 0 ∷ negsuc 0 ∷ pos 4 ∷ pos 0 ∷ pos 0 ∷ pos 0 ∷ pos 1 ∷ pos 5 ∷ pos 12 ∷ negsuc 0 ∷ pos 7 ∷ pos 10 ∷ pos 0 ∷ pos 8 ∷ negsuc 3 ∷ pos 4 ∷ pos 12 ∷ pos 32 ∷ negsuc 3 ∷ pos 12 ∷ pos 28 ∷ pos 0 ∷ negsuc 3 ∷ pos 2 ∷ negsuc 0 ∷ negsuc 0 ∷ negsuc 3 ∷ pos 1 ∷ pos 1 ∷ negsuc 3 ∷ pos 0 ∷ negsuc 11 ∷ pos 6 ∷ negsuc 0 ∷ pos 7 ∷ pos 12 ∷ pos 1 ∷ pos 17 ∷ pos 8 ∷ pos 0 ∷ pos 10 ∷ negsuc 4 ∷ pos 4 ∷ pos 10 ∷ pos 28 ∷ negsuc 3 ∷ pos 8 ∷ pos 25 ∷ pos 0 ∷ pos 0 ∷ pos 0 ∷ pos 0 ∷ pos 0 ∷ pos 0 ∷ pos 0 ∷ pos 0 ∷ pos 0 ∷ pos 0 ∷ []) }; S~ = (pos 4 ∷ negsuc 1 ∷ pos 1 ∷ pos 1 ∷ pos 4 ∷ negsuc 0 ∷ negsuc 0 ∷ pos 4 ∷ pos 0 ∷ pos 2 ∷ negsuc 0 ∷ pos 0 ∷ negsuc 1 ∷ negsuc 3 ∷ pos 0 ∷ negsuc 3 ∷ negsuc 2 ∷ pos 0 ∷ []) };
+  joined = record { T = (10780950125378685342 ∷ 15221260663489724096 ∷ 5081190540907983230 ∷ 5081190540907983230 ∷ []); D = (pos 4538 ∷ negsuc 2681 ∷ pos 2562 ∷ pos 2562 ∷ negsuc 2681 ∷ pos 3380 ∷ negsuc 361 ∷ negsuc 361 ∷ pos 2562 ∷ negsuc 361 ∷ pos 2186 ∷ pos 2186 ∷ pos 2562 ∷ negsuc 361 ∷ pos 2186 ∷ pos 2186 ∷ []) };
+  folded = record { T = (618569043562718646 ∷ 4329983304939030654 ∷ []); D = (pos 25 ∷ pos 43 ∷ pos 43 ∷ pos 466 ∷ []) };
+  S′ = (negsuc 2 ∷ negsuc 20 ∷ negsuc 3 ∷ pos 5 ∷ []);
+  T~₁ = 6561294053611662977;
+  D~₁ = negsuc 8;
+}
 
-evenBase-right : Right evenBase
-unfolding build sum sumℕ residue table ternary firstOf greatest LOf repunit stepOf restOf digitOf unlessRefused all every eqZ short diagonalWithin areTernary beside above digitWitness gadget commitRules instanceOf commit relationRules productsHold commitmentHolds memberWord relation joinRules joinedInstance join messageRules preparedOf message verdictRules diagonalsHold firstHolds secondHolds foldedInstance verdictBy verdict witnessRules foldedWitness witness plain
-evenBase-right = record { commits₁ = λ x y. refl; commits₂ = λ x y. refl; messages = refl; joins = refl; agrees = refl; commitment-only = refl; norm-first = refl; long-before-norm = refl; long-second = refl; border-is-norm = refl; folds = refl; members = refl; plain-tree = refl }
-
-twoColumns-right : Right twoColumns
-unfolding build sum sumℕ residue table ternary firstOf greatest LOf repunit stepOf restOf digitOf unlessRefused all every eqZ short diagonalWithin areTernary beside above digitWitness gadget commitRules instanceOf commit relationRules productsHold commitmentHolds memberWord relation joinRules joinedInstance join messageRules preparedOf message verdictRules diagonalsHold firstHolds secondHolds foldedInstance verdictBy verdict witnessRules foldedWitness witness plain
-twoColumns-right = record { commits₁ = λ x y. refl; commits₂ = λ x y. refl; messages = refl; joins = refl; agrees = refl; commitment-only = refl; norm-first = refl; long-before-norm = refl; long-second = refl; border-is-norm = refl; folds = refl; members = refl; plain-tree = refl }
-
-twoByTwo-right : Right twoByTwo
-unfolding build sum sumℕ residue table ternary firstOf greatest LOf repunit stepOf restOf digitOf unlessRefused all every eqZ short diagonalWithin areTernary beside above digitWitness gadget commitRules instanceOf commit relationRules productsHold commitmentHolds memberWord relation joinRules joinedInstance join messageRules preparedOf message verdictRules diagonalsHold firstHolds secondHolds foldedInstance verdictBy verdict witnessRules foldedWitness witness plain
-twoByTwo-right = record { commits₁ = λ x y. refl; commits₂ = λ x y. refl; messages = refl; joins = refl; agrees = refl; commitment-only = refl; norm-first = refl; long-before-norm = refl; long-second = refl; border-is-norm = refl; folds = refl; members = refl; plain-tree = refl }
+all-right : Right General oneByTwo × Right General evenBase × Right General twoColumns × Right General twoByTwo × Right Fresh freshRight
+unfolding diagonalsHold diagonalWithin build sum sumℕ residue table placeOf ternary firstOf greatest LOf repunit stepOf restOf digitOf unlessRefused all every eqZ shortRight areTernary beside above digitWitness gadget commitRules instanceIn commitIn relationRules productsHold commitmentHolds memberWord relation joinRules joinedInstance joinIn messageRules preparedIn messageIn verdictRules firstHolds secondHolds foldedInstance verdictBy verdictIn judgedIn witnessRules foldedWitness witnessIn plain
+all-right = (
+  record { commits₁ = λ x y. refl; commits₂ = λ x y. refl; messages = refl; joins = refl; agrees = refl; commitment-only = refl; norm-first = refl; long-before-norm = refl; long-second = refl; border-is-norm = refl; folds = refl; members = refl; plain-tree = refl },
+  record { commits₁ = λ x y. refl; commits₂ = λ x y. refl; messages = refl; joins = refl; agrees = refl; commitment-only = refl; norm-first = refl; long-before-norm = refl; long-second = refl; border-is-norm = refl; folds = refl; members = refl; plain-tree = refl },
+  record { commits₁ = λ x y. refl; commits₂ = λ x y. refl; messages = refl; joins = refl; agrees = refl; commitment-only = refl; norm-first = refl; long-before-norm = refl; long-second = refl; border-is-norm = refl; folds = refl; members = refl; plain-tree = refl },
+  record { commits₁ = λ x y. refl; commits₂ = λ x y. refl; messages = refl; joins = refl; agrees = refl; commitment-only = refl; norm-first = refl; long-before-norm = refl; long-second = refl; border-is-norm = refl; folds = refl; members = refl; plain-tree = refl },
+  record { commits₁ = λ x y. refl; commits₂ = λ x y. refl; messages = refl; joins = refl; agrees = refl; commitment-only = refl; norm-first = refl; long-before-norm = refl; long-second = refl; border-is-norm = refl; folds = refl; members = refl; plain-tree = refl },
+)

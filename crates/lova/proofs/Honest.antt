@@ -12,19 +12,23 @@ use Rattle.settings.specs.Rules.{firstOf}
 use Rattle.settings.specs.Settings.{Parameters, settingRefusal}
 use Rattle.settings.proofs.Accepted.{Accepted, accepted}
 use Rattle.lova.specs.Answers.{afterSetting, done, «yes», Outcome, ends}
-use Rattle.lova.specs.Stored.{Instance, Prepared, matrixA, matrixT, matrixS, matrixD, matrixV, matrixS~, matrixT~, matrixD~, joinedT, joinedD}
-use Rattle.lova.specs.Calls.{Fits, FitsInstance, FitsC, Short, DiagonalWithin, Ternary}
+use Rattle.lova.specs.declared.Profile.{Profile}
+use Rattle.lova.specs.declared.Profile.the-variants.{General, Fresh}
+use Rattle.lova.specs.Stored.{Instance, Message, Prepared, matrixA, matrixT, matrixS, matrixD, matrixS~, rightS, rightT, rightD, sentV, sentS~, sentT~, sentD~, joinedT, joinedD}
+use Rattle.lova.specs.Calls.{Fits, FitsInstance, FitsRight, FitsC, Short, ShortRight, DiagonalWithin, Ternary}
 use Rattle.lova.specs.Fold.{besideS, digitWitness}
-use Rattle.lova.specs.Commit.{commit, instanceOf}
+use Rattle.lova.specs.Repeats.{repeatedS}
+use Rattle.lova.specs.Commit.{commitIn, instanceIn, instanceOf}
 use Rattle.lova.specs.Relation.{Related}
-use Rattle.lova.specs.Join.{join}
-use Rattle.lova.specs.Message.{message, preparedOf}
-use Rattle.lova.specs.Verdict.{verdict, verdictRules, verdictBy, diagonalsHold, firstHolds, secondHolds, foldedInstance}
-use Rattle.lova.specs.Witness.{witness, foldedWitness}
-use Rattle.lova.specs.Trees.{Tree, leaf, fold, plain, Proper, Before, Held, FitsBefore, HeldFits, leftWitness, seen, prepares, viewOf, joinOf, FoldAccepted, AllAccepted, Honest}
+use Rattle.lova.specs.Join.{joinIn, joinedInstance}
+use Rattle.lova.specs.Message.{messageIn, message, preparedIn, preparedOf}
+use Rattle.lova.specs.Verdict.{verdictIn, judgedIn, verdict, verdictRules, verdictBy, diagonalsHold, firstHolds, secondHolds, foldedInstance}
+use Rattle.lova.specs.Witness.{witnessIn, witness, foldedWitness}
+use Rattle.lova.specs.Trees.{Tree, leaf, fold, foldFresh, plain, Proper, Before, Held, FitsBefore, HeldFits, leftWitness, seen, prepares, preparesFresh, viewOf, joinOf, FoldAccepted, AllAccepted, Honest}
 use Rattle.lova.proofs.Tests.{equal-iff, equal-words-iff, diagonals-iff}
 use Rattle.lova.proofs.Refusals.{ends-so, commit-proper, join-proper, message-proper, verdict-proper, witness-proper}
-use Rattle.lova.proofs.OneFold.{word-word, instance-fits, T-entry, D-entry, message-fits, join-is, witness-is, witness-fits, instance-is, S~-bounded, D~-bounded, witness-short, norm-holds, commitment-holds}
+use Rattle.lova.proofs.BothProfiles.{right-fits, sent-fits, instance-repeats, message-repeats, V-repeats, witness-repeats, sent-S~-bounded, sent-D~-bounded, repeated-short}
+use Rattle.lova.proofs.OneFold.{word-word, instance-fits, T-entry, D-entry, join-is, witness-is, witness-fits, instance-is, witness-short, norm-holds, commitment-holds}
 
 module _ (p : Parameters) (A : List ℕ) (ok : settingRefusal p ≡ 0) (sizeA : Fits (matrixA p) A) where
   acc : Accepted p
@@ -35,41 +39,49 @@ module _ (p : Parameters) (A : List ℕ) (ok : settingRefusal p ≡ 0) (sizeA : 
   diagonal-own S short i hi = rw (D-entry p A S i i hi hi, gram-diagonal (p .m) (matrixS p .read S) i) (record { le = le→leb _ _ (short i hi) })
 
   -- the calls of a leaf and of a fold
-  commit-ends : (S : List ℤ) (out : Instance) → Fits (matrixS p) S → Short p S → FitsInstance p out → commit p A S out ≡ ends done (instanceOf p A S)
-  unfolding commit
-  commit-ends S out size short fits = ends-so out _ _ (commit-proper p A S out .1 (record { setting = ok; lengths = (sizeA, size, fits); columns = short }))
+  commit-ends : (f : Profile) (S : List ℤ) (out : Instance) → Fits (rightS p f) S → ShortRight p f S → FitsRight p f out → commitIn p f A S out ≡ ends done (instanceIn p f A S)
+  unfolding commitIn
+  commit-ends f S out size short fits = ends-so out _ _ (commit-proper p f A S out .1 (record { setting = ok; lengths = (sizeA, size, fits); columns = short }))
 
-  module _ (S₁ S₂ : List ℤ) (size₁ : Fits (matrixS p) S₁) (size₂ : Fits (matrixS p) S₂) (short₁ : Short p S₁) (short₂ : Short p S₂)
-      (C : List ℕ) (sizeC : FitsC p C) (ternary : Ternary p C) (before : Before) (fits : FitsBefore p before) where
+  module _ (f : Profile) (S₁ S₂ : List ℤ) (size₁ : Fits (matrixS p) S₁) (size₂ : Fits (rightS p f) S₂) (short₁ : Short p S₁) (short₂ : ShortRight p f S₂)
+      (C : List ℕ) (sizeC : FitsC p C) (ternary : Ternary p C) (before : Before) (fits : FitsBefore p f before) where
+    -- the second witness as the plain tree has it, and its instance
+    abbrev R₂ : List ℤ
+    R₂ = repeatedS p f S₂
+
     abbrev I₁ : Instance
     I₁ = instanceOf p A S₁
 
     abbrev I₂ : Instance
-    I₂ = instanceOf p A S₂
+    I₂ = instanceIn p f A S₂
 
     abbrev said : Prepared
-    said = preparedOf p A S₁ S₂
+    said = preparedIn p f A S₁ S₂
 
     abbrev S′ : List ℤ
-    S′ = foldedWitness p (digitWitness p (besideS p S₁ S₂)) C
+    S′ = foldedWitness p (digitWitness p (besideS p S₁ R₂)) C
 
-    message-ends : message p A S₁ S₂ (before .message) ≡ ends done said
-    unfolding message
-    message-ends = ends-so (before .message) _ _ (message-proper p A S₁ S₂ (before .message) .1 (record { setting = ok; lengths = (sizeA, size₁, size₂, fits .0); columns = (short₁, short₂) }))
+    shortR : Short p R₂
+    shortR = repeated-short p acc f S₂ short₂
 
-    join-ends : join p I₁ I₂ (said .message .«V») (before .join) ≡ ends done (joinOf p A S₁ S₂)
-    unfolding join
+    message-ends : messageIn p f A S₁ S₂ (before .message) ≡ ends done said
+    unfolding messageIn
+    message-ends = ends-so (before .message) _ _ (message-proper p f A S₁ S₂ (before .message) .1 (record { setting = ok; lengths = (sizeA, size₁, size₂, fits .0); columns = (short₁, short₂) }))
+
+    join-ends : joinIn p f I₁ I₂ (said .message .«V») (before .join) ≡ ends done (joinOf p A S₁ R₂)
+    unfolding joinIn
     join-ends =
-        ends-so (before .join) _ _ (join-proper p I₁ I₂ (said .message .«V») (before .join) .1
-        (record { setting = ok; lengths = (instance-fits p A S₁, instance-fits p A S₂, message-fits p A S₁ S₂ .0 .0, fits .1) }))
-        ∙ ap (λ (x : Instance). ends done x) (join-is p A S₁ S₂)
+        ends-so (before .join) _ _ (join-proper p f I₁ I₂ (said .message .«V») (before .join) .1
+        (record { setting = ok; lengths = (instance-fits p A S₁, right-fits p A f S₂, sent-fits p A f S₁ S₂ .0 .0, fits .1) }))
+        ∙ ap₂ (λ (I : Instance) («V» : List ℤ). ends done (joinedInstance p I₁ I «V»)) (instance-repeats p A f S₂) (V-repeats p A f S₁ S₂)
+        ∙ ap (λ (x : Instance). ends done x) (join-is p A S₁ R₂)
 
-    verdict-proceeds : firstOf (afterSetting p (verdictRules p I₁ I₂ (said .message) C (before .verdict))) ≡ 0
-    verdict-proceeds = verdict-proper p I₁ I₂ (said .message) C (before .verdict) .1 (record {
+    verdict-proceeds : firstOf (afterSetting p (verdictRules p f I₁ I₂ (said .message) C (before .verdict))) ≡ 0
+    verdict-proceeds = verdict-proper p f I₁ I₂ (said .message) C (before .verdict) .1 (record {
       setting = ok;
-      lengths = (instance-fits p A S₁, instance-fits p A S₂, message-fits p A S₁ S₂ .0, sizeC, fits .2);
+      lengths = (instance-fits p A S₁, right-fits p A f S₂, sent-fits p A f S₁ S₂ .0, sizeC, fits .2);
       bytes = ternary;
-      entries = D~-bounded p A S₁ S₂ acc;
+      entries = sent-D~-bounded p A f S₁ S₂ acc;
     })
 
     yes-by : (within first second : Bool) (x y : Instance) → T within → T first → T second → verdictBy within first second x y ≡ ends «yes» y
@@ -79,23 +91,42 @@ module _ (p : Parameters) (A : List ℕ) (ok : settingRefusal p ≡ 0) (sizeA : 
     yes-by true false second x y w f s = absurd f
     yes-by false first second x y w f s = absurd w
 
+    -- what is judged is the general message of S1 and of the second witness, repeated
+    judged-general : judgedIn p f I₁ I₂ (said .message) C (before .verdict) ≡ judgedIn p General I₁ (instanceOf p A R₂) (preparedOf p A S₁ R₂ .message) C (before .verdict)
+    unfolding judgedIn
+    judged-general = ap₂ (λ (I : Instance) (M : Message). verdictBy (diagonalsHold p I₁ I) (firstHolds p I₁ I M) (secondHolds p I₁ I M) (before .verdict) (foldedInstance p M C)) (instance-repeats p A f S₂) (message-repeats p A f S₁ S₂)
+
     -- the diagonals of two honest instances are within B
-    within : T (diagonalsHold p I₁ I₂)
-    within = diagonals-iff p I₁ I₂ .1 (diagonal-own S₁ short₁, diagonal-own S₂ short₂)
+    within : T (diagonalsHold p I₁ (instanceOf p A R₂))
+    within = diagonals-iff p I₁ (instanceOf p A R₂) .1 (diagonal-own S₁ short₁, diagonal-own R₂ shortR)
 
-    verdict-ends : verdict p I₁ I₂ (said .message) C (before .verdict) ≡ ends «yes» (instanceOf p A S′)
-    unfolding verdict firstHolds secondHolds
-    verdict-ends =
-        ends-so (before .verdict) _ _ verdict-proceeds
-        ∙ yes-by _ _ _ (before .verdict) (foldedInstance p (said .message) C) within (equal-iff _ _ _ _ .1 (norm-holds p A S₁ S₂ acc short₁ short₂)) (equal-words-iff _ _ _ _ .1 (commitment-holds p A S₁ S₂ acc short₁ short₂))
-        ∙ ap (λ (x : Instance). ends «yes» x) (instance-is p A S₁ S₂ C)
+    general-yes : judgedIn p General I₁ (instanceOf p A R₂) (preparedOf p A S₁ R₂ .message) C (before .verdict) ≡ ends «yes» (instanceOf p A S′)
+    unfolding judgedIn firstHolds secondHolds
+    general-yes =
+        yes-by _ _ _ (before .verdict) (foldedInstance p (preparedOf p A S₁ R₂ .message) C) within (equal-iff _ _ _ _ .1 (norm-holds p A S₁ R₂ acc short₁ shortR)) (equal-words-iff _ _ _ _ .1 (commitment-holds p A S₁ R₂ acc short₁ shortR))
+        ∙ ap (λ (x : Instance). ends «yes» x) (instance-is p A S₁ R₂ C)
 
-    witness-ends : witness p (said .S~) C (before .witness) ≡ ends done S′
-    unfolding witness
+    verdict-ends : verdictIn p f I₁ I₂ (said .message) C (before .verdict) ≡ ends «yes» (instanceOf p A S′)
+    unfolding verdictIn
+    verdict-ends = ends-so (before .verdict) _ _ verdict-proceeds ∙ judged-general ∙ general-yes
+
+    witness-ends : witnessIn p f (said .S~) C (before .witness) ≡ ends done S′
+    unfolding witnessIn
     witness-ends =
-        ends-so (before .witness) _ _ (witness-proper p (said .S~) C (before .witness) .1
-        (record { setting = ok; lengths = (message-fits p A S₁ S₂ .1, sizeC, fits .3); bytes = ternary; entries = S~-bounded p A S₁ S₂ acc }))
-        ∙ ap (λ (x : List ℤ). ends done x) (witness-is p A S₁ S₂ C)
+        ends-so (before .witness) _ _ (witness-proper p f (said .S~) C (before .witness) .1
+        (record { setting = ok; lengths = (sent-fits p A f S₁ S₂ .1, sizeC, fits .3); bytes = ternary; entries = sent-S~-bounded p A f S₁ S₂ acc }))
+        ∙ ap (λ (x : List ℤ). ends done (foldedWitness p (matrixS~ p .read x) C)) (witness-repeats p A f S₁ S₂)
+        ∙ ap (λ (x : List ℤ). ends done x) (witness-is p A S₁ R₂ C)
+
+    -- the four calls together
+    fold-accepts : FoldAccepted p f A I₁ I₂ S₁ S₂ C before said
+    fold-accepts = record {
+      messages = ap (λ (o : Outcome Prepared). o .answer) message-ends;
+      joins = ap (λ (o : Outcome Instance). o .answer) join-ends;
+      joined = ap (λ (o : Outcome Instance). o .outputs) join-ends;
+      agrees = ap (λ (o : Outcome Instance). o .answer) verdict-ends;
+      folds = ap (λ (o : Outcome (List ℤ)). o .answer) witness-ends;
+    }
 
   -- ---- the induction over the tree
 
@@ -109,38 +140,32 @@ module _ (p : Parameters) (A : List ℕ) (ok : settingRefusal p ≡ 0) (sizeA : 
   inside-leaf : (S : List ℤ) (out : Instance) → Fits (matrixS p) S → Short p S → FitsInstance p out → Inside (leaf S) out
   unfolding AllAccepted leftWitness plain viewOf seen
   inside-leaf S out size short fits =
-      let e = commit-ends S out size short fits in
+      let e = commit-ends General S out size short fits in
       record { calls = ap (λ (o : Outcome Instance). o .answer) e; root = refl; view = ap (λ (o : Outcome Instance). o .outputs) e; size = size; short = short }
 
   -- a fold's calls, where what they are given is what the plain tree made
-  fold-calls : (S₁ S₂ : List ℤ) (X₁ X₂ : List ℤ) (J₁ J₂ : Instance) (C : List ℕ) (before : Before) (given : Prepared)
-      → X₁ ≡ S₁ → X₂ ≡ S₂ → J₁ ≡ instanceOf p A S₁ → J₂ ≡ instanceOf p A S₂ → given ≡ preparedOf p A S₁ S₂
-      → FoldAccepted p A (instanceOf p A S₁) (instanceOf p A S₂) S₁ S₂ C before (preparedOf p A S₁ S₂) → FoldAccepted p A J₁ J₂ X₁ X₂ C before given
-  fold-calls S₁ S₂ X₁ X₂ J₁ J₂ C before given a b c d e f = rw (a, b, c, d, e) f
+  fold-calls : (f : Profile) (S₁ S₂ : List ℤ) (X₁ X₂ : List ℤ) (J₁ J₂ : Instance) (C : List ℕ) (before : Before) (given : Prepared)
+      → X₁ ≡ S₁ → X₂ ≡ S₂ → J₁ ≡ instanceOf p A S₁ → J₂ ≡ instanceIn p f A S₂ → given ≡ preparedIn p f A S₁ S₂
+      → FoldAccepted p f A (instanceOf p A S₁) (instanceIn p f A S₂) S₁ S₂ C before (preparedIn p f A S₁ S₂) → FoldAccepted p f A J₁ J₂ X₁ X₂ C before given
+  fold-calls f S₁ S₂ X₁ X₂ J₁ J₂ C before given a b c d e g = rw (a, b, c, d, e) g
 
   inside-fold : (left right : Tree) (C : List ℕ) (h₁ : Held left) (h₂ : Held right) (before : Before)
-      → Inside left h₁ → Inside right h₂ → FitsC p C → Ternary p C → FitsBefore p before → Inside (fold left right C) (h₁, h₂, before)
+      → Inside left h₁ → Inside right h₂ → FitsC p C → Ternary p C → FitsBefore p General before → Inside (fold left right C) (h₁, h₂, before)
   unfolding AllAccepted leftWitness plain viewOf seen prepares
   inside-fold left right C h₁ h₂ before l r sizeC ternary fits =
       let S₁ = plain p left in
       let S₂ = plain p right in
-      let m = message-ends S₁ S₂ (l .size) (r .size) (l .short) (r .short) C sizeC ternary before fits in
-      let j = join-ends S₁ S₂ (l .size) (r .size) (l .short) (r .short) C sizeC ternary before fits in
-      let v = verdict-ends S₁ S₂ (l .size) (r .size) (l .short) (r .short) C sizeC ternary before fits in
-      let w = witness-ends S₁ S₂ (l .size) (r .size) (l .short) (r .short) C sizeC ternary before fits in
+      let G = General in
+      let m = message-ends G S₁ S₂ (l .size) (r .size) (l .short) (r .short) C sizeC ternary before fits in
+      let v = verdict-ends G S₁ S₂ (l .size) (r .size) (l .short) (r .short) C sizeC ternary before fits in
+      let w = witness-ends G S₁ S₂ (l .size) (r .size) (l .short) (r .short) C sizeC ternary before fits in
       let prepared : (message p A (leftWitness p A left h₁) (leftWitness p A right h₂) (before .message)) .outputs ≡ preparedOf p A S₁ S₂ =
       ap₂ (λ (x y : List ℤ). (message p A x y (before .message)) .outputs) (l .root) (r .root) ∙ ap (λ (o : Outcome Prepared). o .outputs) m in
       record {
         calls = (
           l .calls,
           r .calls,
-          fold-calls S₁ S₂ _ _ _ _ C before _ (l .root) (r .root) (l .view) (r .view) prepared (record {
-            messages = ap (λ (o : Outcome Prepared). o .answer) m;
-            joins = ap (λ (o : Outcome Instance). o .answer) j;
-            joined = ap (λ (o : Outcome Instance). o .outputs) j;
-            agrees = ap (λ (o : Outcome Instance). o .answer) v;
-            folds = ap (λ (o : Outcome (List ℤ)). o .answer) w;
-          }),
+          fold-calls G S₁ S₂ _ _ _ _ C before _ (l .root) (r .root) (l .view) (r .view) prepared (fold-accepts G S₁ S₂ (l .size) (r .size) (l .short) (r .short) C sizeC ternary before fits),
         );
         root = ap (λ (x : Prepared). (witness p (x .S~) C (before .witness)) .outputs) prepared ∙ ap (λ (o : Outcome (List ℤ)). o .outputs) w;
         view = ap (λ (x : Prepared). (verdict p (seen p (viewOf p A left h₁)) (seen p (viewOf p A right h₂)) (x .message) C (before .verdict)) .outputs) prepared
@@ -150,12 +175,43 @@ module _ (p : Parameters) (A : List ℕ) (ok : settingRefusal p ≡ 0) (sizeA : 
         short = witness-short p A S₁ S₂ acc C;
       }
 
+  inside-fresh : (left : Tree) (u : List ℤ) (C : List ℕ) (h₁ : Held left) (out : Instance) (before : Before)
+      → Inside left h₁ → Fits (rightS p Fresh) u → ShortRight p Fresh u → FitsRight p Fresh out → FitsC p C → Ternary p C → FitsBefore p Fresh before
+      → Inside (foldFresh left u C) (h₁, out, before)
+  unfolding AllAccepted leftWitness plain viewOf seen preparesFresh
+  inside-fresh left u C h₁ out before l sizeU shortU fitsOut sizeC ternary fits =
+      let S₁ = plain p left in
+      let F = Fresh in
+      let c = commit-ends F u out sizeU shortU fitsOut in
+      let made : (commitIn p F A u out) .outputs ≡ instanceIn p F A u = ap (λ (o : Outcome Instance). o .outputs) c in
+      let m = message-ends F S₁ u (l .size) sizeU (l .short) shortU C sizeC ternary before fits in
+      let v = verdict-ends F S₁ u (l .size) sizeU (l .short) shortU C sizeC ternary before fits in
+      let w = witness-ends F S₁ u (l .size) sizeU (l .short) shortU C sizeC ternary before fits in
+      let prepared : (messageIn p F A (leftWitness p A left h₁) u (before .message)) .outputs ≡ preparedIn p F A S₁ u =
+      ap (λ (x : List ℤ). (messageIn p F A x u (before .message)) .outputs) (l .root) ∙ ap (λ (o : Outcome Prepared). o .outputs) m in
+      record {
+        calls = (
+          l .calls,
+          ap (λ (o : Outcome Instance). o .answer) c,
+          fold-calls F S₁ u _ _ _ _ C before _ (l .root) refl (l .view) made prepared (fold-accepts F S₁ u (l .size) sizeU (l .short) shortU C sizeC ternary before fits),
+        );
+        root = ap (λ (x : Prepared). (witnessIn p F (x .S~) C (before .witness)) .outputs) prepared ∙ ap (λ (o : Outcome (List ℤ)). o .outputs) w;
+        view = ap (λ (x : Prepared). (verdictIn p F (seen p (viewOf p A left h₁)) ((commitIn p F A u out) .outputs) (x .message) C (before .verdict)) .outputs) prepared
+            ∙ ap₂ (λ (x y : Instance). (verdictIn p F x y (preparedIn p F A S₁ u .message) C (before .verdict)) .outputs) (l .view) made
+            ∙ ap (λ (o : Outcome Instance). o .outputs) v;
+        size = witness-fits p A S₁ (repeatedS p F u) C;
+        short = witness-short p A S₁ (repeatedS p F u) acc C;
+      }
+
   inside : (t : Tree) (held : Held t) → Proper p t → HeldFits p t held → Inside t held
   unfolding Proper HeldFits
   inside (leaf S) out proper fits = inside-leaf S out (proper .0) (proper .1) fits
   inside (fold left right C) held proper fits =
       inside-fold left right C (held .0) (held .1) (held .2)
       (inside left (held .0) (proper .0) (fits .0)) (inside right (held .1) (proper .1) (fits .1)) (proper .2 .0) (proper .2 .1) (fits .2)
+  inside (foldFresh left u C) held proper fits =
+      inside-fresh left u C (held .0) (held .1) (held .2)
+      (inside left (held .0) (proper .0) (fits .0)) (proper .1 .0) (proper .1 .1) (fits .1) (proper .2 .0) (proper .2 .1) (fits .2)
 
   -- a short witness is in relation (1) with its own instance
   pub related-own : (S : List ℤ) → Short p S → Related p A (instanceOf p A S) S
@@ -181,27 +237,31 @@ module _ (p : Parameters) (A : List ℕ) (ok : settingRefusal p ≡ 0) (sizeA : 
 zeroInstance : (rows : ℕ) (cells : ℕ) → Instance
 zeroInstance rows cells = record { T = replicate rows 0; D = replicate cells (pos 0) }
 
+-- of a fold's four calls
+zeroBefore : Parameters → Profile → Before
+zeroBefore p f = record {
+  message = record { message = record { «V» = replicate (sentV p f .size) (pos 0); T~ = replicate (sentT~ p f .size) 0; D~ = replicate (sentD~ p f .size) (pos 0) }; S~ = replicate (sentS~ p f .size) (pos 0) };
+  join = zeroInstance (joinedT p .size) (joinedD p .size);
+  verdict = zeroInstance (matrixT p .size) (matrixD p .size);
+  witness = replicate (matrixS p .size) (pos 0);
+}
+
+zero-fits : (p : Parameters) (f : Profile) → FitsBefore p f (zeroBefore p f)
+unfolding zeroBefore zeroInstance
+zero-fits p f = (
+  ((length-replicate _ (pos 0), length-replicate _ 0, length-replicate _ (pos 0)), length-replicate _ (pos 0)),
+  (length-replicate _ 0, length-replicate _ (pos 0)),
+  (length-replicate _ 0, length-replicate _ (pos 0)),
+  length-replicate _ (pos 0),
+)
+
 pub lent : (p : Parameters) (t : Tree) → (held : Held t) × HeldFits p t held
 unfolding HeldFits zeroInstance
 lent p (leaf S) = (zeroInstance (matrixT p .size) (matrixD p .size), (length-replicate _ 0, length-replicate _ (pos 0)))
 lent p (fold left right C) =
     let l = lent p left in
     let r = lent p right in
-    let before : Before = record {
-      message = record { message = record { «V» = replicate (matrixV p .size) (pos 0); T~ = replicate (matrixT~ p .size) 0; D~ = replicate (matrixD~ p .size) (pos 0) }; S~ = replicate (matrixS~ p .size) (pos 0) };
-      join = zeroInstance (joinedT p .size) (joinedD p .size);
-      verdict = zeroInstance (matrixT p .size) (matrixD p .size);
-      witness = replicate (matrixS p .size) (pos 0);
-    } in (
-      (l .0, r .0, before),
-      (
-        l .1,
-        r .1,
-        (
-          ((length-replicate _ (pos 0), length-replicate _ 0, length-replicate _ (pos 0)), length-replicate _ (pos 0)),
-          (length-replicate _ 0, length-replicate _ (pos 0)),
-          (length-replicate _ 0, length-replicate _ (pos 0)),
-          length-replicate _ (pos 0),
-        ),
-      ),
-    )
+    ((l .0, r .0, zeroBefore p General), (l .1, r .1, zero-fits p General))
+lent p (foldFresh left v C) =
+    let l = lent p left in
+    ((l .0, zeroInstance (rightT p Fresh .size) (rightD p Fresh .size), zeroBefore p Fresh), (l .1, (length-replicate _ 0, length-replicate _ (pos 0)), zero-fits p Fresh))

@@ -5,9 +5,17 @@ pub mod Blocks
 pub mod Gadget
 pub mod Refusals
 pub mod Rebuilding
+pub mod Widths
 pub mod WaysOut
 pub mod Numbers
+pub mod Contracted
+pub mod Repeated
+pub mod FreshEquations
 pub mod OneFold
+pub mod BothProfiles
+pub mod FreshTests
+pub mod FreshOutcomes
+pub mod Computed
 pub mod Honest
 pub mod ThreeTests
 pub mod Exact

@@ -1,7 +1,7 @@
 -- One honest fold: what message, join, verdict and folded witness make of two short witnesses with their instances.
 use mathlib.Core.Path.{_≡_, refl, sym, _∙_, ap, ap₂}
 use mathlib.Core.List.{List}
-use Prim.Native.Nat.{ℕ, zero, suc, _*_, _-_, _^_, _<_, _≤_}
+use Prim.Native.Nat.{ℕ, zero, suc, _*_, _^_, _<_, _≤_}
 use native.Mathlib.Omega.{arith}
 use native.Mathlib.Nat.{le-trans}
 use lib.IntN.{ℤ, pos, natAbs}
@@ -12,14 +12,14 @@ use Rattle.matrices.specs.Tables.{ternary}
 use Rattle.matrices.proofs.Matrices.{product-cong, bothSides-cong, bothSides-gram, word-product}
 use Rattle.matrices.proofs.Tables.{length-table, entry-table, table-cong}
 use Rattle.matrices.proofs.Bounds.{product-bound, squared-bound, entry-squared}
-use Rattle.settings.specs.Settings.{Parameters, hOf, HOf, NOf}
+use Rattle.settings.specs.Settings.{Parameters, hOf, NOf}
 use Rattle.settings.proofs.Accepted.{Accepted}
 use Rattle.lova.specs.Stored.{Prepared, matrixA, matrixT, matrixS, matrixD, matrixV, matrixS~, matrixT~, matrixD~, readC}
-use Rattle.lova.specs.Calls.{Fits, FitsInstance, FitsMessage, Short, Bounded}
+use Rattle.lova.specs.Calls.{Fits, FitsInstance, Short, Bounded}
 use Rattle.lova.specs.Fold.{besideT, blocksD, besideS, digitWitness, gadget}
-use Rattle.lova.specs.Commit.{instanceOf}
+use Rattle.lova.specs.Commit.{instanceIn, instanceOf}
 use Rattle.lova.specs.Join.{joinedInstance}
-use Rattle.lova.specs.Message.{preparedOf}
+use Rattle.lova.specs.Message.{preparedIn, preparedOf}
 use Rattle.lova.specs.Verdict.{foldedInstance}
 use Rattle.lova.specs.Witness.{foldedWitness}
 use Rattle.lova.specs.Trees.{joinOf}
@@ -39,15 +39,15 @@ word-word z = residue-residue (2 ^ 64) (omega arith) z
 module _ (p : Parameters) (A : List ℕ) where
   -- the slices of a witness's instance
   pub instance-fits : (S : List ℤ) → FitsInstance p (instanceOf p A S)
-  unfolding instanceOf
+  unfolding instanceIn
   instance-fits S = (length-table (p .n) (p .t) _, length-table (p .t) (p .t) _)
 
   pub T-entry : (S : List ℤ) → Agree (p .n) (p .t) (matrixT p .read (instanceOf p A S .T)) (λ i j. pos (word (product (p .m) (matrixA p .read A) (matrixS p .read S) i j)))
-  unfolding instanceOf
+  unfolding instanceIn
   T-entry S i j hi hj = ap pos (entry-table 0 (p .n) (p .t) _ i j hi hj)
 
   pub D-entry : (S : List ℤ) → Agree (p .t) (p .t) (matrixD p .read (instanceOf p A S .D)) (gram (p .m) (matrixS p .read S))
-  unfolding instanceOf
+  unfolding instanceIn
   D-entry S i j hi hj = entry-table (pos 0) (p .t) (p .t) _ i j hi hj
 
   module _ (S₁ S₂ : List ℤ) where
@@ -62,24 +62,20 @@ module _ (p : Parameters) (A : List ℕ) where
     Q = digitWitness p W
 
     S~-is : Agree (p .m) (NOf p) (matrixS~ p .read (said .S~)) Q
-    unfolding preparedOf
+    unfolding preparedIn
     S~-is i j hi hj = entry-table (pos 0) (p .m) (NOf p) Q i j hi hj
 
     D~-is : Agree (NOf p) (NOf p) (matrixD~ p .read (said .message .D~)) (gram (p .m) Q)
-    unfolding preparedOf
+    unfolding preparedIn
     D~-is i j hi hj = entry-table (pos 0) (NOf p) (NOf p) _ i j hi hj
 
     T~-is : Agree (p .n) (NOf p) (matrixT~ p .read (said .message .T~)) (λ i j. pos (word (product (p .m) (matrixA p .read A) Q i j)))
-    unfolding preparedOf
+    unfolding preparedIn
     T~-is i j hi hj = ap pos (entry-table 0 (p .n) (NOf p) _ i j hi hj)
 
     V-is : Agree (p .t) (p .t) (matrixV p .read (said .message .«V»)) (product (p .m) (transposed (matrixS p .read S₁)) (matrixS p .read S₂))
-    unfolding preparedOf
+    unfolding preparedIn
     V-is i j hi hj = entry-table (pos 0) (p .t) (p .t) _ i j hi hj
-
-    pub message-fits : FitsMessage p (said .message) × Fits (matrixS~ p) (said .S~)
-    unfolding preparedOf
-    message-fits = ((length-table _ _ _, length-table _ _ _, length-table _ _ _), length-table _ _ _)
 
     -- T~ X = A (S~ X) modulo 2^64, for any X
     committed : (X : Matrix) (i j : ℕ) → i < p .n → word (product (NOf p) (matrixT~ p .read (said .message .T~)) X i j) ≡ word (product (p .m) (matrixA p .read A) (product (NOf p) Q X) i j)
@@ -125,7 +121,7 @@ module _ (p : Parameters) (A : List ℕ) where
 
     -- the folded instance is the folded witness's
     pub instance-is : (C : List ℕ) → foldedInstance p (said .message) C ≡ instanceOf p A (foldedWitness p Q C)
-    unfolding foldedInstance instanceOf
+    unfolding foldedInstance instanceIn
     instance-is C = ap₂ (λ (t : List ℕ) (d : List ℤ). record { T = t; D = d })
         (table-cong 0 (p .n) (p .t) _ _ (λ i j hi hj. committed (readC p C) i j hi
         ∙ ap word (product-cong (p .m) (matrixA p .read A) (matrixA p .read A) (product (NOf p) Q (readC p C)) (matrixS p .read (foldedWitness p Q C)) i j (λ k h. refl) (λ k h. sym (S′-is C k j h hj)))))
@@ -134,13 +130,7 @@ module _ (p : Parameters) (A : List ℕ) where
 
     -- in an accepted setting, for short witnesses
     module _ (acc : Accepted p) where
-      -- an honest digit witness is within h, an honest D~ within H, and S' within N h
-      pub S~-bounded : Bounded (p .m) (NOf p) (hOf p) (matrixS~ p .read (said .S~))
-      S~-bounded i j hi hj = rw (S~-is i j hi hj) (digit-size p W i j (acc .b-low))
-
-      pub D~-bounded : Bounded (NOf p) (NOf p) (HOf p) (matrixD~ p .read (said .message .D~))
-      D~-bounded i j hi hj = rw (D~-is i j hi hj) (le-trans (product-bound (p .m) (hOf p) (hOf p) (transposed Q) Q i j (λ k h. digit-size p W k i (acc .b-low)) (λ k h. digit-size p W k j (acc .b-low))) (omega arith))
-
+      -- S' is within N h
       S′-bounded : (C : List ℕ) → Bounded (p .m) (p .t) (NOf p * hOf p) (matrixS p .read (foldedWitness p Q C))
       S′-bounded C i j hi hj = rw (S′-is C i j hi hj) (le-trans (product-bound (NOf p) (hOf p) 1 Q (readC p C) i j (λ k h. digit-size p W i k (acc .b-low)) (λ k h. ternary-size _)) (omega arith))
 

@@ -10,11 +10,11 @@ use Rattle.settings.specs.Rules.{firstOf}
 use Rattle.settings.specs.Settings.{greatest, LOf, repunit, settingRefusal}
 use Rattle.digits.specs.Digits.{stepOf, restOf, digitOf}
 use Rattle.lova.specs.Answers.{unlessRefused}
-use Rattle.lova.specs.Tests.{all, every, eqZ, short, diagonalWithin, areTernary}
+use Rattle.lova.specs.Tests.{all, every, eqZ, shortRight, diagonalWithin, areTernary}
 use Rattle.lova.specs.Fold.{beside, above, digitWitness, gadget}
-use Rattle.lova.specs.Commit.{commitRules, instanceOf, commit}
-use Rattle.lova.specs.Message.{messageRules, preparedOf, message}
-use Rattle.lova.specs.Verdict.{verdictRules, diagonalsHold, firstHolds, secondHolds, foldedInstance, verdictBy, verdict}
+use Rattle.lova.specs.Commit.{commitRules, instanceIn, commitIn}
+use Rattle.lova.specs.Message.{messageRules, preparedIn, messageIn}
+use Rattle.lova.specs.Verdict.{verdictRules, diagonalsHold, firstHolds, secondHolds, foldedInstance, verdictBy, verdictIn, judgedIn}
 use Rattle.lova.specs.Points.{Point, Says, points, In}
 
 -- a claim about each row of a list
@@ -27,7 +27,7 @@ at P x xs h (In.here) = h .0
 at P x xs h (In.there i) = at P x _ (h .1) i
 
 pub every-point : (p : Point) → In p points → Says p
-unfolding Says build sum sumℕ residue table firstOf greatest LOf repunit settingRefusal stepOf restOf digitOf unlessRefused ternary all every eqZ short diagonalWithin areTernary beside above digitWitness gadget commitRules instanceOf commit messageRules preparedOf message verdictRules diagonalsHold firstHolds secondHolds foldedInstance verdictBy verdict
+unfolding Says build sum sumℕ residue table firstOf greatest LOf repunit settingRefusal stepOf restOf digitOf unlessRefused ternary all every eqZ shortRight diagonalWithin areTernary beside above digitWitness gadget commitRules instanceIn commitIn messageRules preparedIn messageIn verdictRules diagonalsHold firstHolds secondHolds foldedInstance verdictBy judgedIn verdictIn
 every-point p i = at Says p points (
   (refl, refl, refl, omega arith),
   (

@@ -10,12 +10,14 @@ use lib.IntN.{ℤ}
 use Rattle.integers.proofs.Tests.{and-fst, and-snd, and-both}
 use Rattle.matrices.specs.Matrices.{Matrix}
 use Rattle.settings.specs.Rules.{Rule, _gives_, firstOf, NoneApplies, First}
-use Rattle.settings.specs.Settings.{Parameters, limits, settingRules, settingRefusal, NOf, hOf, HOf}
+use Rattle.settings.specs.Settings.{Parameters, limits, settingRules, settingRefusal, hOf, HOf}
 use Rattle.settings.proofs.Rules.{Numbered, first-applies, none-applies, none-append, skip-all, stop-all, stop, distinct, rule-first}
 use Rattle.lova.specs.Answers.{afterSetting, Meaning, done, refused, Outcome, ends, unlessRefused}
-use Rattle.lova.specs.Stored.{Stored, Instance, Message, Prepared, matrixA, matrixS, matrixV, matrixS~, matrixT~, matrixD~, matrixT, matrixD, joinedT, joinedD}
-use Rattle.lova.specs.Tests.{fits, fitsC, short, areTernary, bounded}
-use Rattle.lova.specs.Calls.{Decided, CommitLengths, RelationLengths, JoinLengths, MessageLengths, VerdictLengths, WitnessLengths, Fits, FitsInstance, FitsJoined, FitsMessage, FitsPrepared, FitsC, Short, Ternary, Bounded, ProperCommit, ProperRelation, ProperJoin, ProperMessage, ProperVerdict, ProperWitness}
+use Rattle.lova.specs.declared.Profile.{Profile}
+use Rattle.lova.specs.declared.Profile.the-variants.{General}
+use Rattle.lova.specs.Stored.{Stored, Instance, Message, Prepared, columnsOf, matrixA, matrixS, rightS, rightT, rightD, sentV, sentS~, sentT~, sentD~, matrixT, matrixD, joinedT, joinedD}
+use Rattle.lova.specs.Tests.{fits, fitsC, shortRight, areTernary, bounded}
+use Rattle.lova.specs.Calls.{Decided, CommitLengths, RelationLengths, JoinLengths, MessageLengths, VerdictLengths, WitnessLengths, Fits, FitsInstance, FitsRight, FitsJoined, FitsMessage, FitsPrepared, FitsC, Short, ShortRight, Ternary, Bounded, ProperCommit, ProperRelation, ProperJoin, ProperMessage, ProperVerdict, ProperWitness}
 use Rattle.lova.specs.Commit.{commitRules}
 use Rattle.lova.specs.Relation.{relationRules}
 use Rattle.lova.specs.Join.{joinRules}
@@ -193,33 +195,14 @@ module _ (p : Parameters) where
   abbrev pub decJoined : (I : Instance) → Decides (FitsJoined p I)
   decJoined I = both (decFits (joinedT p) (I .T)) (decFits (joinedD p) (I .D))
 
-  abbrev pub decMessage : (M : Message) → Decides (FitsMessage p M)
-  decMessage M = three (decFits (matrixV p) (M .«V»)) (decFits (matrixT~ p) (M .T~)) (decFits (matrixD~ p) (M .D~))
-
-  abbrev pub decPrepared : (o : Prepared) → Decides (FitsPrepared p o)
-  decPrepared o = both (decMessage (o .message)) (decFits (matrixS~ p) (o .S~))
-
   abbrev pub decC : (C : List ℕ) → Decides (FitsC p C)
   decC C = record { test = fitsC p C; says = eqb-iff _ _ }
-
-  abbrev pub decShort : (S : List ℤ) → Decides (Short p S)
-  decShort S = record { test = short p S; says = short-iff p S }
 
   abbrev pub decTernary : (C : List ℕ) → Decides (Ternary p C)
   decTernary C = record { test = areTernary p C; says = ternary-iff p C }
 
   abbrev pub decBounded : (rows cols M : ℕ) (X : Matrix) → Decides (Bounded rows cols M X)
   decBounded rows cols M X = record { test = bounded rows cols M X; says = bounded-iff rows cols M X }
-
-  -- for each operation: no rule applies if and only if the call is proper
-  pub commit-proper : (A : List ℕ) (S : List ℤ) (out : Instance) → (firstOf (afterSetting p (commitRules p A S out)) ≡ 0) ↔ ProperCommit p A S out
-  unfolding commitRules
-  commit-proper A S out =
-      let s = of-setting p _ tt in
-      let l = three (decFits (matrixA p) A) (decFits (matrixS p) S) (decInstance out) in (
-        (λ e. let h = s .0 e in record { setting = h .0; lengths = open-rule l (h .1 .0); columns = open-rule (decShort S) (h .1 .1 .0) }),
-        (λ c. s .1 (c .setting, (shut-rule l (c .lengths), (shut-rule (decShort S) (c .columns), tt)))),
-      )
 
   pub relation-proper : (A : List ℕ) (I : Instance) (S : List ℤ) → (firstOf (afterSetting p (relationRules p A I S)) ≡ 0) ↔ ProperRelation p A I S
   unfolding relationRules
@@ -229,47 +212,6 @@ module _ (p : Parameters) where
         (λ e. let h = s .0 e in record { setting = h .0; lengths = open-rule l (h .1 .0) }),
         (λ c. s .1 (c .setting, (shut-rule l (c .lengths), tt))),
       )
-
-  pub join-proper : (I₁ I₂ : Instance) («V» : List ℤ) (out : Instance) → (firstOf (afterSetting p (joinRules p I₁ I₂ «V» out)) ≡ 0) ↔ ProperJoin p I₁ I₂ «V» out
-  unfolding joinRules
-  join-proper I₁ I₂ «V» out =
-      let s = of-setting p _ tt in
-      let l = four (decInstance I₁) (decInstance I₂) (decFits (matrixV p) «V») (decJoined out) in (
-        (λ e. let h = s .0 e in record { setting = h .0; lengths = open-rule l (h .1 .0) }),
-        (λ c. s .1 (c .setting, (shut-rule l (c .lengths), tt))),
-      )
-
-  pub message-proper : (A : List ℕ) (S₁ S₂ : List ℤ) (out : Prepared) → (firstOf (afterSetting p (messageRules p A S₁ S₂ out)) ≡ 0) ↔ ProperMessage p A S₁ S₂ out
-  unfolding messageRules
-  message-proper A S₁ S₂ out =
-      let s = of-setting p _ tt in
-      let l = four (decFits (matrixA p) A) (decFits (matrixS p) S₁) (decFits (matrixS p) S₂) (decPrepared out) in
-      let w = both (decShort S₁) (decShort S₂) in (
-        (λ e. let h = s .0 e in record { setting = h .0; lengths = open-rule l (h .1 .0); columns = open-rule w (h .1 .1 .0) }),
-        (λ c. s .1 (c .setting, (shut-rule l (c .lengths), (shut-rule w (c .columns), tt)))),
-      )
-
-  pub verdict-proper : (I₁ I₂ : Instance) (M : Message) (C : List ℕ) (out : Instance) → (firstOf (afterSetting p (verdictRules p I₁ I₂ M C out)) ≡ 0) ↔ ProperVerdict p I₁ I₂ M C out
-  unfolding verdictRules
-  verdict-proper I₁ I₂ M C out =
-      let s = of-setting p _ tt in
-      let l = five (decInstance I₁) (decInstance I₂) (decMessage M) (decC C) (decInstance out) in
-      let d = decBounded (NOf p) (NOf p) (HOf p) (matrixD~ p .read (M .D~)) in (
-        (λ e. let h = s .0 e in record { setting = h .0; lengths = open-rule l (h .1 .0); bytes = open-rule (decTernary C) (h .1 .1 .0); entries = open-rule d (h .1 .1 .1 .0) }),
-        (λ c. s .1 (c .setting, (shut-rule l (c .lengths), (shut-rule (decTernary C) (c .bytes), (shut-rule d (c .entries), tt))))),
-      )
-
-  pub witness-proper : (S~ : List ℤ) (C : List ℕ) (out : List ℤ) → (firstOf (afterSetting p (witnessRules p S~ C out)) ≡ 0) ↔ ProperWitness p S~ C out
-  unfolding witnessRules
-  witness-proper S~ C out =
-      let s = of-setting p _ tt in
-      let l = three (decFits (matrixS~ p) S~) (decC C) (decFits (matrixS p) out) in
-      let d = decBounded (p .m) (NOf p) (hOf p) (matrixS~ p .read S~) in (
-        (λ e. let h = s .0 e in record { setting = h .0; lengths = open-rule l (h .1 .0); bytes = open-rule (decTernary C) (h .1 .1 .0); entries = open-rule d (h .1 .1 .1 .0) }),
-        (λ c. s .1 (c .setting, (shut-rule l (c .lengths), (shut-rule (decTernary C) (c .bytes), (shut-rule d (c .entries), tt))))),
-      )
-
-  -- ---- each number of an operation's own, in the document's order
 
   -- a rule that applies where a test fails, after the setting's rules and `earlier` ones
   own-number : {P : Type 0} (earlier : List Rule) (d : Decides P) (r : ℕ) (later : List Rule)
@@ -282,39 +224,8 @@ module _ (p : Parameters) where
         (λ h. f .1 (a .1 (h .0, h .1), fail d (h .2))),
       )
 
-  abbrev pub commitLens : (A : List ℕ) (S : List ℤ) (out : Instance) → Decides (CommitLengths p A S out)
-  commitLens A S out = three (decFits (matrixA p) A) (decFits (matrixS p) S) (decInstance out)
-
   abbrev pub relationLens : (A : List ℕ) (I : Instance) (S : List ℤ) → Decides (RelationLengths p A I S)
   relationLens A I S = three (decFits (matrixA p) A) (decInstance I) (decFits (matrixS p) S)
-
-  abbrev pub joinLens : (I₁ I₂ : Instance) («V» : List ℤ) (out : Instance) → Decides (JoinLengths p I₁ I₂ «V» out)
-  joinLens I₁ I₂ «V» out = four (decInstance I₁) (decInstance I₂) (decFits (matrixV p) «V») (decJoined out)
-
-  abbrev pub messageLens : (A : List ℕ) (S₁ S₂ : List ℤ) (out : Prepared) → Decides (MessageLengths p A S₁ S₂ out)
-  messageLens A S₁ S₂ out = four (decFits (matrixA p) A) (decFits (matrixS p) S₁) (decFits (matrixS p) S₂) (decPrepared out)
-
-  abbrev pub verdictLens : (I₁ I₂ : Instance) (M : Message) (C : List ℕ) (out : Instance) → Decides (VerdictLengths p I₁ I₂ M C out)
-  verdictLens I₁ I₂ M C out = five (decInstance I₁) (decInstance I₂) (decMessage M) (decC C) (decInstance out)
-
-  abbrev pub witnessLens : (S~ : List ℤ) (C : List ℕ) (out : List ℤ) → Decides (WitnessLengths p S~ C out)
-  witnessLens S~ C out = three (decFits (matrixS~ p) S~) (decC C) (decFits (matrixS p) out)
-
-  pub commit-7 : (A : List ℕ) (S : List ℤ) (out : Instance) → (firstOf (afterSetting p (commitRules p A S out)) ≡ 7) ↔ ((settingRefusal p ≡ 0) × (CommitLengths p A S out → ⊥))
-  unfolding commitRules
-  commit-7 A S out =
-      let f = own-number ([]) (commitLens A S out) 7 ((not ((decShort S) .test) gives 8) ∷ []) tt tt in (
-        (λ e. let x = f .0 e in (x .0, x .2)),
-        (λ h. f .1 (h .0, tt, h .1)),
-      )
-
-  pub commit-8 : (A : List ℕ) (S : List ℤ) (out : Instance) → (firstOf (afterSetting p (commitRules p A S out)) ≡ 8) ↔ ((settingRefusal p ≡ 0) × CommitLengths p A S out × (Short p S → ⊥))
-  unfolding commitRules
-  commit-8 A S out =
-      let f = own-number ((not ((commitLens A S out) .test) gives 7) ∷ []) (decShort S) 8 ([]) tt tt in (
-        (λ e. let x = f .0 e in (x .0, open-rule (commitLens A S out) (x .1 .0), x .2)),
-        (λ h. f .1 (h .0, (shut-rule (commitLens A S out) (h .1), tt), h .2)),
-      )
 
   pub relation-7 : (A : List ℕ) (I : Instance) (S : List ℤ) → (firstOf (afterSetting p (relationRules p A I S)) ≡ 7) ↔ ((settingRefusal p ≡ 0) × (RelationLengths p A I S → ⊥))
   unfolding relationRules
@@ -324,74 +235,167 @@ module _ (p : Parameters) where
         (λ h. f .1 (h .0, tt, h .1)),
       )
 
-  pub join-7 : (I₁ I₂ : Instance) («V» : List ℤ) (out : Instance) → (firstOf (afterSetting p (joinRules p I₁ I₂ «V» out)) ≡ 7) ↔ ((settingRefusal p ≡ 0) × (JoinLengths p I₁ I₂ «V» out → ⊥))
+module _ (p : Parameters) (f : Profile) where
+  abbrev pub decRight : (I : Instance) → Decides (FitsRight p f I)
+  decRight I = both (decFits p (rightT p f) (I .T)) (decFits p (rightD p f) (I .D))
+
+  abbrev pub decMessage : (M : Message) → Decides (FitsMessage p f M)
+  decMessage M = three (decFits p (sentV p f) (M .«V»)) (decFits p (sentT~ p f) (M .T~)) (decFits p (sentD~ p f) (M .D~))
+
+  abbrev pub decPrepared : (o : Prepared) → Decides (FitsPrepared p f o)
+  decPrepared o = both (decMessage (o .message)) (decFits p (sentS~ p f) (o .S~))
+
+  abbrev pub decShort : (g : Profile) (S : List ℤ) → Decides (ShortRight p g S)
+  decShort g S = record { test = shortRight p g S; says = short-iff p g S }
+
+  -- for each operation: no rule applies if and only if the call is proper
+  pub commit-proper : (A : List ℕ) (S : List ℤ) (out : Instance) → (firstOf (afterSetting p (commitRules p f A S out)) ≡ 0) ↔ ProperCommit p f A S out
+  unfolding commitRules
+  commit-proper A S out =
+      let s = of-setting p _ tt in
+      let l = three (decFits p (matrixA p) A) (decFits p (rightS p f) S) (decRight out) in (
+        (λ e. let h = s .0 e in record { setting = h .0; lengths = open-rule l (h .1 .0); columns = open-rule (decShort f S) (h .1 .1 .0) }),
+        (λ c. s .1 (c .setting, (shut-rule l (c .lengths), (shut-rule (decShort f S) (c .columns), tt)))),
+      )
+
+  pub join-proper : (I₁ I₂ : Instance) («V» : List ℤ) (out : Instance) → (firstOf (afterSetting p (joinRules p f I₁ I₂ «V» out)) ≡ 0) ↔ ProperJoin p f I₁ I₂ «V» out
+  unfolding joinRules
+  join-proper I₁ I₂ «V» out =
+      let s = of-setting p _ tt in
+      let l = four (decInstance p I₁) (decRight I₂) (decFits p (sentV p f) «V») (decJoined p out) in (
+        (λ e. let h = s .0 e in record { setting = h .0; lengths = open-rule l (h .1 .0) }),
+        (λ c. s .1 (c .setting, (shut-rule l (c .lengths), tt))),
+      )
+
+  pub message-proper : (A : List ℕ) (S₁ S₂ : List ℤ) (out : Prepared) → (firstOf (afterSetting p (messageRules p f A S₁ S₂ out)) ≡ 0) ↔ ProperMessage p f A S₁ S₂ out
+  unfolding messageRules
+  message-proper A S₁ S₂ out =
+      let s = of-setting p _ tt in
+      let l = four (decFits p (matrixA p) A) (decFits p (matrixS p) S₁) (decFits p (rightS p f) S₂) (decPrepared out) in
+      let w = both (decShort General S₁) (decShort f S₂) in (
+        (λ e. let h = s .0 e in record { setting = h .0; lengths = open-rule l (h .1 .0); columns = open-rule w (h .1 .1 .0) }),
+        (λ c. s .1 (c .setting, (shut-rule l (c .lengths), (shut-rule w (c .columns), tt)))),
+      )
+
+  pub verdict-proper : (I₁ I₂ : Instance) (M : Message) (C : List ℕ) (out : Instance) → (firstOf (afterSetting p (verdictRules p f I₁ I₂ M C out)) ≡ 0) ↔ ProperVerdict p f I₁ I₂ M C out
+  unfolding verdictRules
+  verdict-proper I₁ I₂ M C out =
+      let s = of-setting p _ tt in
+      let l = five (decInstance p I₁) (decRight I₂) (decMessage M) (decC p C) (decInstance p out) in
+      let d = decBounded p (columnsOf p f) (columnsOf p f) (HOf p) (sentD~ p f .read (M .D~)) in (
+        (λ e. let h = s .0 e in record { setting = h .0; lengths = open-rule l (h .1 .0); bytes = open-rule (decTernary p C) (h .1 .1 .0); entries = open-rule d (h .1 .1 .1 .0) }),
+        (λ c. s .1 (c .setting, (shut-rule l (c .lengths), (shut-rule (decTernary p C) (c .bytes), (shut-rule d (c .entries), tt))))),
+      )
+
+  pub witness-proper : (S~ : List ℤ) (C : List ℕ) (out : List ℤ) → (firstOf (afterSetting p (witnessRules p f S~ C out)) ≡ 0) ↔ ProperWitness p f S~ C out
+  unfolding witnessRules
+  witness-proper S~ C out =
+      let s = of-setting p _ tt in
+      let l = three (decFits p (sentS~ p f) S~) (decC p C) (decFits p (matrixS p) out) in
+      let d = decBounded p (p .m) (columnsOf p f) (hOf p) (sentS~ p f .read S~) in (
+        (λ e. let h = s .0 e in record { setting = h .0; lengths = open-rule l (h .1 .0); bytes = open-rule (decTernary p C) (h .1 .1 .0); entries = open-rule d (h .1 .1 .1 .0) }),
+        (λ c. s .1 (c .setting, (shut-rule l (c .lengths), (shut-rule (decTernary p C) (c .bytes), (shut-rule d (c .entries), tt))))),
+      )
+
+  abbrev pub commitLens : (A : List ℕ) (S : List ℤ) (out : Instance) → Decides (CommitLengths p f A S out)
+  commitLens A S out = three (decFits p (matrixA p) A) (decFits p (rightS p f) S) (decRight out)
+
+  abbrev pub joinLens : (I₁ I₂ : Instance) («V» : List ℤ) (out : Instance) → Decides (JoinLengths p f I₁ I₂ «V» out)
+  joinLens I₁ I₂ «V» out = four (decInstance p I₁) (decRight I₂) (decFits p (sentV p f) «V») (decJoined p out)
+
+  abbrev pub messageLens : (A : List ℕ) (S₁ S₂ : List ℤ) (out : Prepared) → Decides (MessageLengths p f A S₁ S₂ out)
+  messageLens A S₁ S₂ out = four (decFits p (matrixA p) A) (decFits p (matrixS p) S₁) (decFits p (rightS p f) S₂) (decPrepared out)
+
+  abbrev pub verdictLens : (I₁ I₂ : Instance) (M : Message) (C : List ℕ) (out : Instance) → Decides (VerdictLengths p f I₁ I₂ M C out)
+  verdictLens I₁ I₂ M C out = five (decInstance p I₁) (decRight I₂) (decMessage M) (decC p C) (decInstance p out)
+
+  abbrev pub witnessLens : (S~ : List ℤ) (C : List ℕ) (out : List ℤ) → Decides (WitnessLengths p f S~ C out)
+  witnessLens S~ C out = three (decFits p (sentS~ p f) S~) (decC p C) (decFits p (matrixS p) out)
+
+  pub commit-7 : (A : List ℕ) (S : List ℤ) (out : Instance) → (firstOf (afterSetting p (commitRules p f A S out)) ≡ 7) ↔ ((settingRefusal p ≡ 0) × (CommitLengths p f A S out → ⊥))
+  unfolding commitRules
+  commit-7 A S out =
+      let f = own-number p ([]) (commitLens A S out) 7 ((not ((decShort f S) .test) gives 8) ∷ []) tt tt in (
+        (λ e. let x = f .0 e in (x .0, x .2)),
+        (λ h. f .1 (h .0, tt, h .1)),
+      )
+
+  pub commit-8 : (A : List ℕ) (S : List ℤ) (out : Instance) → (firstOf (afterSetting p (commitRules p f A S out)) ≡ 8) ↔ ((settingRefusal p ≡ 0) × CommitLengths p f A S out × (ShortRight p f S → ⊥))
+  unfolding commitRules
+  commit-8 A S out =
+      let f = own-number p ((not ((commitLens A S out) .test) gives 7) ∷ []) (decShort f S) 8 ([]) tt tt in (
+        (λ e. let x = f .0 e in (x .0, open-rule (commitLens A S out) (x .1 .0), x .2)),
+        (λ h. f .1 (h .0, (shut-rule (commitLens A S out) (h .1), tt), h .2)),
+      )
+
+  pub join-7 : (I₁ I₂ : Instance) («V» : List ℤ) (out : Instance) → (firstOf (afterSetting p (joinRules p f I₁ I₂ «V» out)) ≡ 7) ↔ ((settingRefusal p ≡ 0) × (JoinLengths p f I₁ I₂ «V» out → ⊥))
   unfolding joinRules
   join-7 I₁ I₂ «V» out =
-      let f = own-number ([]) (joinLens I₁ I₂ «V» out) 7 ([]) tt tt in (
+      let f = own-number p ([]) (joinLens I₁ I₂ «V» out) 7 ([]) tt tt in (
         (λ e. let x = f .0 e in (x .0, x .2)),
         (λ h. f .1 (h .0, tt, h .1)),
       )
 
-  pub message-7 : (A : List ℕ) (S₁ S₂ : List ℤ) (out : Prepared) → (firstOf (afterSetting p (messageRules p A S₁ S₂ out)) ≡ 7) ↔ ((settingRefusal p ≡ 0) × (MessageLengths p A S₁ S₂ out → ⊥))
+  pub message-7 : (A : List ℕ) (S₁ S₂ : List ℤ) (out : Prepared) → (firstOf (afterSetting p (messageRules p f A S₁ S₂ out)) ≡ 7) ↔ ((settingRefusal p ≡ 0) × (MessageLengths p f A S₁ S₂ out → ⊥))
   unfolding messageRules
   message-7 A S₁ S₂ out =
-      let f = own-number ([]) (messageLens A S₁ S₂ out) 7 ((not ((both (decShort S₁) (decShort S₂)) .test) gives 8) ∷ []) tt tt in (
+      let f = own-number p ([]) (messageLens A S₁ S₂ out) 7 ((not ((both (decShort General S₁) (decShort f S₂)) .test) gives 8) ∷ []) tt tt in (
         (λ e. let x = f .0 e in (x .0, x .2)),
         (λ h. f .1 (h .0, tt, h .1)),
       )
 
-  pub message-8 : (A : List ℕ) (S₁ S₂ : List ℤ) (out : Prepared) → (firstOf (afterSetting p (messageRules p A S₁ S₂ out)) ≡ 8) ↔ ((settingRefusal p ≡ 0) × MessageLengths p A S₁ S₂ out × ((Short p S₁ × Short p S₂) → ⊥))
+  pub message-8 : (A : List ℕ) (S₁ S₂ : List ℤ) (out : Prepared) → (firstOf (afterSetting p (messageRules p f A S₁ S₂ out)) ≡ 8) ↔ ((settingRefusal p ≡ 0) × MessageLengths p f A S₁ S₂ out × ((Short p S₁ × ShortRight p f S₂) → ⊥))
   unfolding messageRules
   message-8 A S₁ S₂ out =
-      let f = own-number ((not ((messageLens A S₁ S₂ out) .test) gives 7) ∷ []) (both (decShort S₁) (decShort S₂)) 8 ([]) tt tt in (
+      let f = own-number p ((not ((messageLens A S₁ S₂ out) .test) gives 7) ∷ []) (both (decShort General S₁) (decShort f S₂)) 8 ([]) tt tt in (
         (λ e. let x = f .0 e in (x .0, open-rule (messageLens A S₁ S₂ out) (x .1 .0), x .2)),
         (λ h. f .1 (h .0, (shut-rule (messageLens A S₁ S₂ out) (h .1), tt), h .2)),
       )
 
-  pub verdict-7 : (I₁ I₂ : Instance) (M : Message) (C : List ℕ) (out : Instance) → (firstOf (afterSetting p (verdictRules p I₁ I₂ M C out)) ≡ 7) ↔ ((settingRefusal p ≡ 0) × (VerdictLengths p I₁ I₂ M C out → ⊥))
+  pub verdict-7 : (I₁ I₂ : Instance) (M : Message) (C : List ℕ) (out : Instance) → (firstOf (afterSetting p (verdictRules p f I₁ I₂ M C out)) ≡ 7) ↔ ((settingRefusal p ≡ 0) × (VerdictLengths p f I₁ I₂ M C out → ⊥))
   unfolding verdictRules
   verdict-7 I₁ I₂ M C out =
-      let f = own-number ([]) (verdictLens I₁ I₂ M C out) 7 ((not ((decTernary C) .test) gives 9) ∷ (not ((decBounded (NOf p) (NOf p) (HOf p) (matrixD~ p .read (M .D~))) .test) gives 10) ∷ []) tt tt in (
+      let f = own-number p ([]) (verdictLens I₁ I₂ M C out) 7 ((not ((decTernary p C) .test) gives 9) ∷ (not ((decBounded p (columnsOf p f) (columnsOf p f) (HOf p) (sentD~ p f .read (M .D~))) .test) gives 10) ∷ []) tt tt in (
         (λ e. let x = f .0 e in (x .0, x .2)),
         (λ h. f .1 (h .0, tt, h .1)),
       )
 
-  pub verdict-9 : (I₁ I₂ : Instance) (M : Message) (C : List ℕ) (out : Instance) → (firstOf (afterSetting p (verdictRules p I₁ I₂ M C out)) ≡ 9) ↔ ((settingRefusal p ≡ 0) × VerdictLengths p I₁ I₂ M C out × (Ternary p C → ⊥))
+  pub verdict-9 : (I₁ I₂ : Instance) (M : Message) (C : List ℕ) (out : Instance) → (firstOf (afterSetting p (verdictRules p f I₁ I₂ M C out)) ≡ 9) ↔ ((settingRefusal p ≡ 0) × VerdictLengths p f I₁ I₂ M C out × (Ternary p C → ⊥))
   unfolding verdictRules
   verdict-9 I₁ I₂ M C out =
-      let f = own-number ((not ((verdictLens I₁ I₂ M C out) .test) gives 7) ∷ []) (decTernary C) 9 ((not ((decBounded (NOf p) (NOf p) (HOf p) (matrixD~ p .read (M .D~))) .test) gives 10) ∷ []) tt tt in (
+      let f = own-number p ((not ((verdictLens I₁ I₂ M C out) .test) gives 7) ∷ []) (decTernary p C) 9 ((not ((decBounded p (columnsOf p f) (columnsOf p f) (HOf p) (sentD~ p f .read (M .D~))) .test) gives 10) ∷ []) tt tt in (
         (λ e. let x = f .0 e in (x .0, open-rule (verdictLens I₁ I₂ M C out) (x .1 .0), x .2)),
         (λ h. f .1 (h .0, (shut-rule (verdictLens I₁ I₂ M C out) (h .1), tt), h .2)),
       )
 
-  pub verdict-10 : (I₁ I₂ : Instance) (M : Message) (C : List ℕ) (out : Instance) → (firstOf (afterSetting p (verdictRules p I₁ I₂ M C out)) ≡ 10) ↔ ((settingRefusal p ≡ 0) × VerdictLengths p I₁ I₂ M C out × Ternary p C × (Bounded (NOf p) (NOf p) (HOf p) (matrixD~ p .read (M .D~)) → ⊥))
+  pub verdict-10 : (I₁ I₂ : Instance) (M : Message) (C : List ℕ) (out : Instance) → (firstOf (afterSetting p (verdictRules p f I₁ I₂ M C out)) ≡ 10) ↔ ((settingRefusal p ≡ 0) × VerdictLengths p f I₁ I₂ M C out × Ternary p C × (Bounded (columnsOf p f) (columnsOf p f) (HOf p) (sentD~ p f .read (M .D~)) → ⊥))
   unfolding verdictRules
   verdict-10 I₁ I₂ M C out =
-      let f = own-number ((not ((verdictLens I₁ I₂ M C out) .test) gives 7) ∷ (not ((decTernary C) .test) gives 9) ∷ []) (decBounded (NOf p) (NOf p) (HOf p) (matrixD~ p .read (M .D~))) 10 ([]) tt tt in (
-        (λ e. let x = f .0 e in (x .0, open-rule (verdictLens I₁ I₂ M C out) (x .1 .0), open-rule (decTernary C) (x .1 .1 .0), x .2)),
-        (λ h. f .1 (h .0, (shut-rule (verdictLens I₁ I₂ M C out) (h .1), (shut-rule (decTernary C) (h .2), tt)), h .3)),
+      let f = own-number p ((not ((verdictLens I₁ I₂ M C out) .test) gives 7) ∷ (not ((decTernary p C) .test) gives 9) ∷ []) (decBounded p (columnsOf p f) (columnsOf p f) (HOf p) (sentD~ p f .read (M .D~))) 10 ([]) tt tt in (
+        (λ e. let x = f .0 e in (x .0, open-rule (verdictLens I₁ I₂ M C out) (x .1 .0), open-rule (decTernary p C) (x .1 .1 .0), x .2)),
+        (λ h. f .1 (h .0, (shut-rule (verdictLens I₁ I₂ M C out) (h .1), (shut-rule (decTernary p C) (h .2), tt)), h .3)),
       )
 
-  pub witness-7 : (S~ : List ℤ) (C : List ℕ) (out : List ℤ) → (firstOf (afterSetting p (witnessRules p S~ C out)) ≡ 7) ↔ ((settingRefusal p ≡ 0) × (WitnessLengths p S~ C out → ⊥))
+  pub witness-7 : (S~ : List ℤ) (C : List ℕ) (out : List ℤ) → (firstOf (afterSetting p (witnessRules p f S~ C out)) ≡ 7) ↔ ((settingRefusal p ≡ 0) × (WitnessLengths p f S~ C out → ⊥))
   unfolding witnessRules
   witness-7 S~ C out =
-      let f = own-number ([]) (witnessLens S~ C out) 7 ((not ((decTernary C) .test) gives 9) ∷ (not ((decBounded (p .m) (NOf p) (hOf p) (matrixS~ p .read S~)) .test) gives 11) ∷ []) tt tt in (
+      let f = own-number p ([]) (witnessLens S~ C out) 7 ((not ((decTernary p C) .test) gives 9) ∷ (not ((decBounded p (p .m) (columnsOf p f) (hOf p) (sentS~ p f .read S~)) .test) gives 11) ∷ []) tt tt in (
         (λ e. let x = f .0 e in (x .0, x .2)),
         (λ h. f .1 (h .0, tt, h .1)),
       )
 
-  pub witness-9 : (S~ : List ℤ) (C : List ℕ) (out : List ℤ) → (firstOf (afterSetting p (witnessRules p S~ C out)) ≡ 9) ↔ ((settingRefusal p ≡ 0) × WitnessLengths p S~ C out × (Ternary p C → ⊥))
+  pub witness-9 : (S~ : List ℤ) (C : List ℕ) (out : List ℤ) → (firstOf (afterSetting p (witnessRules p f S~ C out)) ≡ 9) ↔ ((settingRefusal p ≡ 0) × WitnessLengths p f S~ C out × (Ternary p C → ⊥))
   unfolding witnessRules
   witness-9 S~ C out =
-      let f = own-number ((not ((witnessLens S~ C out) .test) gives 7) ∷ []) (decTernary C) 9 ((not ((decBounded (p .m) (NOf p) (hOf p) (matrixS~ p .read S~)) .test) gives 11) ∷ []) tt tt in (
+      let f = own-number p ((not ((witnessLens S~ C out) .test) gives 7) ∷ []) (decTernary p C) 9 ((not ((decBounded p (p .m) (columnsOf p f) (hOf p) (sentS~ p f .read S~)) .test) gives 11) ∷ []) tt tt in (
         (λ e. let x = f .0 e in (x .0, open-rule (witnessLens S~ C out) (x .1 .0), x .2)),
         (λ h. f .1 (h .0, (shut-rule (witnessLens S~ C out) (h .1), tt), h .2)),
       )
 
-  pub witness-11 : (S~ : List ℤ) (C : List ℕ) (out : List ℤ) → (firstOf (afterSetting p (witnessRules p S~ C out)) ≡ 11) ↔ ((settingRefusal p ≡ 0) × WitnessLengths p S~ C out × Ternary p C × (Bounded (p .m) (NOf p) (hOf p) (matrixS~ p .read S~) → ⊥))
+  pub witness-11 : (S~ : List ℤ) (C : List ℕ) (out : List ℤ) → (firstOf (afterSetting p (witnessRules p f S~ C out)) ≡ 11) ↔ ((settingRefusal p ≡ 0) × WitnessLengths p f S~ C out × Ternary p C × (Bounded (p .m) (columnsOf p f) (hOf p) (sentS~ p f .read S~) → ⊥))
   unfolding witnessRules
   witness-11 S~ C out =
-      let f = own-number ((not ((witnessLens S~ C out) .test) gives 7) ∷ (not ((decTernary C) .test) gives 9) ∷ []) (decBounded (p .m) (NOf p) (hOf p) (matrixS~ p .read S~)) 11 ([]) tt tt in (
-        (λ e. let x = f .0 e in (x .0, open-rule (witnessLens S~ C out) (x .1 .0), open-rule (decTernary C) (x .1 .1 .0), x .2)),
-        (λ h. f .1 (h .0, (shut-rule (witnessLens S~ C out) (h .1), (shut-rule (decTernary C) (h .2), tt)), h .3)),
+      let f = own-number p ((not ((witnessLens S~ C out) .test) gives 7) ∷ (not ((decTernary p C) .test) gives 9) ∷ []) (decBounded p (p .m) (columnsOf p f) (hOf p) (sentS~ p f .read S~)) 11 ([]) tt tt in (
+        (λ e. let x = f .0 e in (x .0, open-rule (witnessLens S~ C out) (x .1 .0), open-rule (decTernary p C) (x .1 .1 .0), x .2)),
+        (λ h. f .1 (h .0, (shut-rule (witnessLens S~ C out) (h .1), (shut-rule (decTernary p C) (h .2), tt)), h .3)),
       )

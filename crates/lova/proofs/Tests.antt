@@ -15,9 +15,10 @@ use Rattle.integers.specs.Residues.{word}
 use Rattle.matrices.specs.Matrices.{Matrix, Agree}
 use Rattle.matrices.specs.Tables.{entry, signed}
 use Rattle.settings.specs.Settings.{Parameters, NOf}
-use Rattle.lova.specs.Stored.{Instance}
-use Rattle.lova.specs.Tests.{all, every, eqZ, equal, equalWords, short, diagonalWithin, areTernary, bounded}
-use Rattle.lova.specs.Calls.{Short, DiagonalWithin, DiagonalLong, Ternary, Bounded}
+use Rattle.lova.specs.declared.Profile.{Profile}
+use Rattle.lova.specs.Stored.{Instance, rightOf}
+use Rattle.lova.specs.Tests.{all, every, eqZ, equal, equalWords, shortRight, diagonalWithin, areTernary, bounded}
+use Rattle.lova.specs.Calls.{ShortRight, DiagonalWithin, DiagonalLong, Ternary, Bounded}
 use Rattle.lova.specs.Verdict.{Diagonals, diagonalsHold}
 
 -- of two tests one fails
@@ -26,12 +27,12 @@ one-fails true b h = inr h
 one-fails false b h = inl tt
 
 -- each number below n passes
-all-true : (n : ℕ) (P : ℕ → Bool) → ((i : ℕ) → i < n → T (P i)) → T (all n P)
+pub all-true : (n : ℕ) (P : ℕ → Bool) → ((i : ℕ) → i < n → T (P i)) → T (all n P)
 unfolding all
 all-true zero P h = tt
 all-true (suc n) P h = and-both (all n P) (P n) (all-true n P (λ i l. h i (omega arith))) (h n (omega arith))
 
-all-elim : (n : ℕ) (P : ℕ → Bool) → T (all n P) → (i : ℕ) → i < n → T (P i)
+pub all-elim : (n : ℕ) (P : ℕ → Bool) → T (all n P) → (i : ℕ) → i < n → T (P i)
 unfolding all
 all-elim zero P h i l = absurd (omega arith)
 all-elim (suc n) P h i l = ⊎-elim
@@ -102,9 +103,9 @@ beyond (pos a) B h = record { lt = lt→ltb B a (nleb→lt a B h) }
 beyond (negsuc a) B h = absurd h
 
 module _ (p : Parameters) where
-  pub short-iff : (S : List ℤ) → T (short p S) ↔ Short p S
-  unfolding short
-  short-iff S = ((λ h j hj. leb→le _ _ (all-elim (p .t) _ h j hj)), (λ h. all-true (p .t) _ (λ j hj. le→leb _ _ (h j hj))))
+  pub short-iff : (f : Profile) (S : List ℤ) → T (shortRight p f S) ↔ ShortRight p f S
+  unfolding shortRight
+  short-iff f S = ((λ h j hj. leb→le _ _ (all-elim (rightOf p f) _ h j hj)), (λ h. all-true (rightOf p f) _ (λ j hj. le→leb _ _ (h j hj))))
 
   diagonal-iff : (D : List ℤ) → T (diagonalWithin p D) ↔ DiagonalWithin p D
   unfolding diagonalWithin

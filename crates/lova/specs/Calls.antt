@@ -12,7 +12,9 @@ use Rattle.settings.specs.Rules.{Rule, First}
 use Rattle.settings.specs.Settings.{Parameters, NOf, hOf, HOf, settingRefusal, settingOf, parametersOf}
 use Rattle.settings.specs.declared.Setting.{Setting}
 use Rattle.lova.specs.Answers.{refused, Outcome, ends}
-use Rattle.lova.specs.Stored.{Stored, Instance, Message, Prepared, matrixA, matrixT, matrixS, matrixD, matrixV, matrixS~, matrixT~, matrixD~, joinedT, joinedD, sizeC}
+use Rattle.lova.specs.Stored.{Stored, Instance, Message, Prepared, rightOf, columnsOf, matrixA, matrixT, matrixS, matrixD, rightS, rightT, rightD, sentV, sentS~, sentT~, sentD~, joinedT, joinedD, sizeC}
+use Rattle.lova.specs.declared.Profile.{Profile}
+use Rattle.lova.specs.declared.Profile.the-variants.{General}
 
 -- a slice has the length of the matrix that it stands for
 abbrev pub Fits : {E : Type 0} → Stored E → List E → Type 0
@@ -21,21 +23,27 @@ Fits s xs = length xs ≡ s .size
 abbrev pub FitsInstance : Parameters → Instance → Type 0
 FitsInstance p I = Fits (matrixT p) (I .T) × Fits (matrixD p) (I .D)
 
+abbrev pub FitsRight : Parameters → Profile → Instance → Type 0
+FitsRight p f I = Fits (rightT p f) (I .T) × Fits (rightD p f) (I .D)
+
 abbrev pub FitsJoined : Parameters → Instance → Type 0
 FitsJoined p I = Fits (joinedT p) (I .T) × Fits (joinedD p) (I .D)
 
-abbrev pub FitsMessage : Parameters → Message → Type 0
-FitsMessage p M = Fits (matrixV p) (M .«V») × Fits (matrixT~ p) (M .T~) × Fits (matrixD~ p) (M .D~)
+abbrev pub FitsMessage : Parameters → Profile → Message → Type 0
+FitsMessage p f M = Fits (sentV p f) (M .«V») × Fits (sentT~ p f) (M .T~) × Fits (sentD~ p f) (M .D~)
 
-abbrev pub FitsPrepared : Parameters → Prepared → Type 0
-FitsPrepared p o = FitsMessage p (o .message) × Fits (matrixS~ p) (o .S~)
+abbrev pub FitsPrepared : Parameters → Profile → Prepared → Type 0
+FitsPrepared p f o = FitsMessage p f (o .message) × Fits (sentS~ p f) (o .S~)
 
 abbrev pub FitsC : Parameters → List ℕ → Type 0
 FitsC p C = length C ≡ sizeC p
 
--- each column of S has a squared length of at most B
+-- each column of S, or v, has a squared length of at most B
+abbrev pub ShortRight : Parameters → Profile → List ℤ → Type 0
+ShortRight p f S = (j : ℕ) → j < rightOf p f → squaredLength (p .m) (rightS p f .read S) j ≤ p .bound
+
 abbrev pub Short : Parameters → List ℤ → Type 0
-Short p S = (j : ℕ) → j < p .t → squaredLength (p .m) (matrixS p .read S) j ≤ p .bound
+Short p S = ShortRight p General S
 
 -- each diagonal entry of D is at most B
 abbrev pub DiagonalWithin : Parameters → List ℤ → Type 0
@@ -54,56 +62,56 @@ abbrev pub Bounded : ℕ → ℕ → ℕ → Matrix → Type 0
 Bounded rows cols M X = (i j : ℕ) → i < rows → j < cols → natAbs (X i j) ≤ M
 
 -- the stated lengths of each operation's slices, outputs included
-module _ (p : Parameters) where
-  abbrev pub CommitLengths : List ℕ → List ℤ → Instance → Type 0
-  CommitLengths A S out = Fits (matrixA p) A × Fits (matrixS p) S × FitsInstance p out
+abbrev pub RelationLengths : Parameters → List ℕ → Instance → List ℤ → Type 0
+RelationLengths p A I S = Fits (matrixA p) A × FitsInstance p I × Fits (matrixS p) S
 
-  abbrev pub RelationLengths : List ℕ → Instance → List ℤ → Type 0
-  RelationLengths A I S = Fits (matrixA p) A × FitsInstance p I × Fits (matrixS p) S
+module _ (p : Parameters) (f : Profile) where
+  abbrev pub CommitLengths : List ℕ → List ℤ → Instance → Type 0
+  CommitLengths A S out = Fits (matrixA p) A × Fits (rightS p f) S × FitsRight p f out
 
   abbrev pub JoinLengths : Instance → Instance → List ℤ → Instance → Type 0
-  JoinLengths I₁ I₂ «V» out = FitsInstance p I₁ × FitsInstance p I₂ × Fits (matrixV p) «V» × FitsJoined p out
+  JoinLengths I₁ I₂ «V» out = FitsInstance p I₁ × FitsRight p f I₂ × Fits (sentV p f) «V» × FitsJoined p out
 
   abbrev pub MessageLengths : List ℕ → List ℤ → List ℤ → Prepared → Type 0
-  MessageLengths A S₁ S₂ out = Fits (matrixA p) A × Fits (matrixS p) S₁ × Fits (matrixS p) S₂ × FitsPrepared p out
+  MessageLengths A S₁ S₂ out = Fits (matrixA p) A × Fits (matrixS p) S₁ × Fits (rightS p f) S₂ × FitsPrepared p f out
 
   abbrev pub VerdictLengths : Instance → Instance → Message → List ℕ → Instance → Type 0
-  VerdictLengths I₁ I₂ M C out = FitsInstance p I₁ × FitsInstance p I₂ × FitsMessage p M × FitsC p C × FitsInstance p out
+  VerdictLengths I₁ I₂ M C out = FitsInstance p I₁ × FitsRight p f I₂ × FitsMessage p f M × FitsC p C × FitsInstance p out
 
   abbrev pub WitnessLengths : List ℤ → List ℕ → List ℤ → Type 0
-  WitnessLengths S~ C out = Fits (matrixS~ p) S~ × FitsC p C × Fits (matrixS p) out
+  WitnessLengths S~ C out = Fits (sentS~ p f) S~ × FitsC p C × Fits (matrixS p) out
 
 -- proper calls
-module _ (p : Parameters) where
+pub record ProperRelation (p : Parameters) (A : List ℕ) (I : Instance) (S : List ℤ) : Type 0 where
+  pub setting : settingRefusal p ≡ 0
+  pub lengths : RelationLengths p A I S
+
+module _ (p : Parameters) (f : Profile) where
   pub record ProperCommit (A : List ℕ) (S : List ℤ) (out : Instance) : Type 0 where
     pub setting : settingRefusal p ≡ 0
-    pub lengths : CommitLengths p A S out
-    pub columns : Short p S
-
-  pub record ProperRelation (A : List ℕ) (I : Instance) (S : List ℤ) : Type 0 where
-    pub setting : settingRefusal p ≡ 0
-    pub lengths : RelationLengths p A I S
+    pub lengths : CommitLengths p f A S out
+    pub columns : ShortRight p f S
 
   pub record ProperJoin (I₁ I₂ : Instance) («V» : List ℤ) (out : Instance) : Type 0 where
     pub setting : settingRefusal p ≡ 0
-    pub lengths : JoinLengths p I₁ I₂ «V» out
+    pub lengths : JoinLengths p f I₁ I₂ «V» out
 
   pub record ProperMessage (A : List ℕ) (S₁ S₂ : List ℤ) (out : Prepared) : Type 0 where
     pub setting : settingRefusal p ≡ 0
-    pub lengths : MessageLengths p A S₁ S₂ out
-    pub columns : Short p S₁ × Short p S₂
+    pub lengths : MessageLengths p f A S₁ S₂ out
+    pub columns : Short p S₁ × ShortRight p f S₂
 
   pub record ProperVerdict (I₁ I₂ : Instance) (M : Message) (C : List ℕ) (out : Instance) : Type 0 where
     pub setting : settingRefusal p ≡ 0
-    pub lengths : VerdictLengths p I₁ I₂ M C out
+    pub lengths : VerdictLengths p f I₁ I₂ M C out
     pub bytes : Ternary p C
-    pub entries : Bounded (NOf p) (NOf p) (HOf p) (matrixD~ p .read (M .D~))
+    pub entries : Bounded (columnsOf p f) (columnsOf p f) (HOf p) (sentD~ p f .read (M .D~))
 
   pub record ProperWitness (S~ : List ℤ) (C : List ℕ) (out : List ℤ) : Type 0 where
     pub setting : settingRefusal p ≡ 0
-    pub lengths : WitnessLengths p S~ C out
+    pub lengths : WitnessLengths p f S~ C out
     pub bytes : Ternary p C
-    pub entries : Bounded (p .m) (NOf p) (hOf p) (matrixS~ p .read S~)
+    pub entries : Bounded (p .m) (columnsOf p f) (hOf p) (sentS~ p f .read S~)
 
 -- demand 1, of a call with these rules that is proper where P holds: a proper call ends with its whole answer; every other call
 -- is refused with the first number that applies to it, and its outputs keep what they held

@@ -4,6 +4,7 @@ pub mod Lent
 pub mod Calls
 pub mod Tests
 pub mod Fold
+pub mod Repeats
 pub mod Commit
 pub mod Relation
 pub mod Join

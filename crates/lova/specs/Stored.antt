@@ -1,11 +1,13 @@
 -- Document 01, "Matrices": how each matrix is stored.
 use mathlib.Core.List.{List}
-use Prim.Native.Nat.{ℕ, _*_}
+use Prim.Native.Nat.{ℕ, _+_, _*_}
 use lib.IntN.{ℤ}
 use Rattle.integers.specs.Residues.{word}
 use Rattle.matrices.specs.Matrices.{Matrix}
 use Rattle.matrices.specs.Tables.{table, unsigned, signed, challenge}
-use Rattle.settings.specs.Settings.{Parameters, NOf}
+use Rattle.settings.specs.Settings.{Parameters, kOf, NOf}
+use Rattle.lova.specs.declared.Profile.{Profile}
+use Rattle.lova.specs.declared.Profile.the-variants.{General, Fresh}
 
 -- a stored matrix: how many elements it has, the matrix that they stand for, and the elements that stand for a matrix
 pub record Stored (E : Type 0) : Type 0 where
@@ -79,3 +81,47 @@ pub record Message : Type 0 where
 pub record Prepared : Type 0 where
   pub message : Message
   pub S~ : List ℤ
+
+-- ---- profiles: the second witness has t columns, or it is one vector v that stands for t equal columns
+
+-- the columns of the second witness, where the first has t
+abbrev pub rightFor : ℕ → Profile → ℕ
+rightFor t General = t
+rightFor t Fresh = 1
+
+abbrev pub rightOf : Parameters → Profile → ℕ
+rightOf p f = rightFor (p .t) f
+
+-- how often each of them stands in the general fold
+abbrev pub copiesFor : ℕ → Profile → ℕ
+copiesFor t General = 1
+copiesFor t Fresh = t
+
+-- the columns of S~, T~ and D~: N, or kt + k
+abbrev pub columnsOf : Parameters → Profile → ℕ
+columnsOf p General = NOf p
+columnsOf p Fresh = p .t * kOf p + kOf p
+
+module _ (p : Parameters) (f : Profile) where
+  -- the second witness and its instance: v has m entries, its T n and its D one
+  abbrev pub rightS : Stored ℤ
+  rightS = wholes (p .m) (rightOf p f)
+
+  abbrev pub rightT : Stored ℕ
+  rightT = words (p .n) (rightOf p f)
+
+  abbrev pub rightD : Stored ℤ
+  rightD = wholes (rightOf p f) (rightOf p f)
+
+  -- what is made of both witnesses: V has t entries, T~ and S~ have kt + k columns and D~ is square of that size
+  abbrev pub sentV : Stored ℤ
+  sentV = wholes (p .t) (rightOf p f)
+
+  abbrev pub sentS~ : Stored ℤ
+  sentS~ = wholes (p .m) (columnsOf p f)
+
+  abbrev pub sentT~ : Stored ℕ
+  sentT~ = words (p .n) (columnsOf p f)
+
+  abbrev pub sentD~ : Stored ℤ
+  sentD~ = wholes (columnsOf p f) (columnsOf p f)

@@ -10,7 +10,9 @@ use Rattle.integers.specs.Residues.{word}
 use Rattle.matrices.specs.Matrices.{Matrix, squaredLength}
 use Rattle.matrices.specs.Tables.{entry}
 use Rattle.settings.specs.Settings.{Parameters, NOf}
-use Rattle.lova.specs.Stored.{Stored, Instance, Message, Prepared, matrixT, matrixS, matrixD, matrixV, matrixS~, matrixT~, matrixD~, joinedT, joinedD, sizeC}
+use Rattle.lova.specs.declared.Profile.{Profile}
+use Rattle.lova.specs.declared.Profile.the-variants.{General}
+use Rattle.lova.specs.Stored.{Stored, Instance, Message, Prepared, rightOf, matrixT, matrixD, rightS, rightT, rightD, sentV, sentS~, sentT~, sentD~, joinedT, joinedD, sizeC}
 
 -- a test of every number below n
 unfoldable pub all : ℕ → (ℕ → Bool) → Bool
@@ -43,22 +45,28 @@ fits s xs = eqb (length xs) (s .size)
 abbrev pub fitsInstance : Parameters → Instance → Bool
 fitsInstance p I = fits (matrixT p) (I .T) && fits (matrixD p) (I .D)
 
+abbrev pub fitsRight : Parameters → Profile → Instance → Bool
+fitsRight p f I = fits (rightT p f) (I .T) && fits (rightD p f) (I .D)
+
 abbrev pub fitsJoined : Parameters → Instance → Bool
 fitsJoined p I = fits (joinedT p) (I .T) && fits (joinedD p) (I .D)
 
-abbrev pub fitsMessage : Parameters → Message → Bool
-fitsMessage p M = fits (matrixV p) (M .«V») && fits (matrixT~ p) (M .T~) && fits (matrixD~ p) (M .D~)
+abbrev pub fitsMessage : Parameters → Profile → Message → Bool
+fitsMessage p f M = fits (sentV p f) (M .«V») && fits (sentT~ p f) (M .T~) && fits (sentD~ p f) (M .D~)
 
-abbrev pub fitsPrepared : Parameters → Prepared → Bool
-fitsPrepared p o = fitsMessage p (o .message) && fits (matrixS~ p) (o .S~)
+abbrev pub fitsPrepared : Parameters → Profile → Prepared → Bool
+fitsPrepared p f o = fitsMessage p f (o .message) && fits (sentS~ p f) (o .S~)
 
 -- whether a challenge has N × t bytes
 abbrev pub fitsC : Parameters → List ℕ → Bool
 fitsC p C = eqb (length C) (sizeC p)
 
--- whether each column of S has a squared length of at most B
-unfoldable pub short : Parameters → List ℤ → Bool
-short p S = all (p .t) (λ j. leb (squaredLength (p .m) (matrixS p .read S) j) (p .bound))
+-- whether each column of S, or v, has a squared length of at most B
+unfoldable pub shortRight : Parameters → Profile → List ℤ → Bool
+shortRight p f S = all (rightOf p f) (λ j. leb (squaredLength (p .m) (rightS p f .read S) j) (p .bound))
+
+abbrev pub short : Parameters → List ℤ → Bool
+short p S = shortRight p General S
 
 -- whether each diagonal entry of D is at most B
 unfoldable pub diagonalWithin : Parameters → List ℤ → Bool

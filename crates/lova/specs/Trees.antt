@@ -5,26 +5,31 @@ use Prim.Native.Nat.{ℕ}
 use lib.IntN.{ℤ}
 use Rattle.matrices.specs.Matrices.{product, gram}
 use Rattle.settings.specs.Settings.{Parameters}
+use Rattle.lova.specs.declared.Profile.{Profile}
+use Rattle.lova.specs.declared.Profile.the-variants.{General, Fresh}
 use Rattle.lova.specs.Answers.{done, «yes», Outcome}
-use Rattle.lova.specs.Stored.{Instance, Message, Prepared, matrixA, matrixS, joinedT, joinedD}
-use Rattle.lova.specs.Calls.{Fits, FitsInstance, FitsJoined, FitsPrepared, FitsC, Short, Ternary}
+use Rattle.lova.specs.Stored.{Instance, Message, Prepared, matrixA, matrixS, rightS, joinedT, joinedD}
+use Rattle.lova.specs.Calls.{Fits, FitsInstance, FitsRight, FitsJoined, FitsPrepared, FitsC, Short, ShortRight, Ternary}
 use Rattle.lova.specs.Fold.{besideS, digitWitness}
-use Rattle.lova.specs.Commit.{commit, instanceOf}
+use Rattle.lova.specs.Repeats.{repeatedS}
+use Rattle.lova.specs.Commit.{commitIn, commit, instanceOf}
 use Rattle.lova.specs.Relation.{Related}
-use Rattle.lova.specs.Join.{join}
-use Rattle.lova.specs.Message.{message}
-use Rattle.lova.specs.Verdict.{verdict}
-use Rattle.lova.specs.Witness.{witness, foldedWitness}
+use Rattle.lova.specs.Join.{joinIn}
+use Rattle.lova.specs.Message.{messageIn, message}
+use Rattle.lova.specs.Verdict.{verdictIn, verdict}
+use Rattle.lova.specs.Witness.{witnessIn, witness, foldedWitness}
 
--- a leaf with a witness S, or a fold of a left and a right tree with a challenge C
+-- a leaf with a witness S, a fold of a left and a right tree with a challenge C, or a fold of a left tree and a fresh leaf v
 pub data Tree : Type 0 where
   leaf : List ℤ → Tree
   fold : Tree → Tree → List ℕ → Tree
+  foldFresh : Tree → List ℤ → List ℕ → Tree
 
 -- the plain tree: at a leaf S; at a fold the digits of what left and right made, times C, with no wrapping
 unfoldable pub plain : Parameters → Tree → List ℤ
 plain p (leaf S) = S
 plain p (fold left right C) = foldedWitness p (digitWitness p (besideS p (plain p left) (plain p right))) C
+plain p (foldFresh left v C) = foldedWitness p (digitWitness p (besideS p (plain p left) (repeatedS p Fresh v))) C
 
 -- ---- what demand 3 asks of leaves and challenges
 
@@ -32,6 +37,7 @@ plain p (fold left right C) = foldedWitness p (digitWitness p (besideS p (plain 
 unfoldable pub Proper : Parameters → Tree → Type 0
 Proper p (leaf S) = Fits (matrixS p) S × Short p S
 Proper p (fold left right C) = Proper p left × Proper p right × (FitsC p C × Ternary p C)
+Proper p (foldFresh left v C) = Proper p left × (Fits (rightS p Fresh) v × ShortRight p Fresh v) × (FitsC p C × Ternary p C)
 
 -- ---- what the lent outputs held before
 
@@ -46,14 +52,16 @@ pub record Before : Type 0 where
 abbrev pub Held : Tree → Type 0
 Held (leaf S) = Instance
 Held (fold left right C) = Held left × Held right × Before
+Held (foldFresh left v C) = Held left × Instance × Before
 
-abbrev pub FitsBefore : Parameters → Before → Type 0
-FitsBefore p b = FitsPrepared p (b .message) × FitsJoined p (b .join) × FitsInstance p (b .verdict) × Fits (matrixS p) (b .witness)
+abbrev pub FitsBefore : Parameters → Profile → Before → Type 0
+FitsBefore p f b = FitsPrepared p f (b .message) × FitsJoined p (b .join) × FitsInstance p (b .verdict) × Fits (matrixS p) (b .witness)
 
 -- every lent output has its stated length; what it held is arbitrary
 unfoldable pub HeldFits : Parameters → (t : Tree) → Held t → Type 0
 HeldFits p (leaf S) held = FitsInstance p held
-HeldFits p (fold left right C) held = HeldFits p left (held .0) × HeldFits p right (held .1) × FitsBefore p (held .2)
+HeldFits p (fold left right C) held = HeldFits p left (held .0) × HeldFits p right (held .1) × FitsBefore p General (held .2)
+HeldFits p (foldFresh left v C) held = HeldFits p left (held .0) × FitsRight p Fresh (held .1) × FitsBefore p Fresh (held .2)
 
 -- ---- the honest calls, from the leaves up: each gets what the calls below it left
 
@@ -62,26 +70,36 @@ unfoldable pub leftWitness : (p : Parameters) (A : List ℕ) (t : Tree) → Held
 leftWitness p A (leaf S) held = S
 leftWitness p A (fold left right C) held =
     (witness p ((message p A (leftWitness p A left (held .0)) (leftWitness p A right (held .1)) (held .2 .message)) .outputs .S~) C (held .2 .witness)) .outputs
+leftWitness p A (foldFresh left v C) held =
+    (witnessIn p Fresh ((messageIn p Fresh A (leftWitness p A left (held .0)) v (held .2 .message)) .outputs .S~) C (held .2 .witness)) .outputs
 
 -- what the verifier sees: a leaf's instance; a fold's message and challenge, and what its own outputs held. No A, no witness
 pub data View : Type 0 where
   leaf : Instance → View
   fold : View → View → Message → List ℕ → Instance → View
+  foldFresh : View → Instance → Message → List ℕ → Instance → View
 
 -- the T and D that the verifier works out from that alone: commit's at a leaf, verdict's at a fold
 unfoldable pub seen : Parameters → View → Instance
 seen p (View.leaf I) = I
 seen p (View.fold left right M C before) = (verdict p (seen p left) (seen p right) M C before) .outputs
+seen p (View.foldFresh left I M C before) = (verdictIn p Fresh (seen p left) I M C before) .outputs
 
 -- the message call at a fold
 unfoldable pub prepares : (p : Parameters) (A : List ℕ) (left right : Tree) → Held left → Held right → Before → Outcome Prepared
 prepares p A left right h₁ h₂ before = message p A (leftWitness p A left h₁) (leftWitness p A right h₂) (before .message)
+
+-- the message call at a fold with a fresh leaf
+unfoldable pub preparesFresh : (p : Parameters) (A : List ℕ) (left : Tree) → List ℤ → Held left → Before → Outcome Prepared
+preparesFresh p A left v h₁ before = messageIn p Fresh A (leftWitness p A left h₁) v (before .message)
 
 -- what the calls of a tree show the verifier
 unfoldable pub viewOf : (p : Parameters) (A : List ℕ) (t : Tree) → Held t → View
 viewOf p A (leaf S) held = View.leaf ((commit p A S held) .outputs)
 viewOf p A (fold left right C) held =
     View.fold (viewOf p A left (held .0)) (viewOf p A right (held .1)) ((prepares p A left right (held .0) (held .1) (held .2)) .outputs .message) C (held .2 .verdict)
+viewOf p A (foldFresh left v C) held =
+    View.foldFresh (viewOf p A left (held .0)) ((commitIn p Fresh A v (held .1)) .outputs) ((preparesFresh p A left v (held .0) (held .2)) .outputs .message) C (held .2 .verdict)
 
 -- A [S1 S2] modulo 2^64 and [S1 S2]-transposed [S1 S2], as join writes them
 unfoldable pub joinOf : Parameters → List ℕ → List ℤ → List ℤ → Instance
@@ -91,21 +109,25 @@ joinOf p A S₁ S₂ = record {
 }
 
 -- a fold's calls, at what they are given: I1 and I2 are the two instances, S1 and S2 the two witnesses
-pub record FoldAccepted (p : Parameters) (A : List ℕ) (I₁ I₂ : Instance) (S₁ S₂ : List ℤ) (C : List ℕ) (before : Before) (said : Prepared) : Type 0 where
-  pub messages : (message p A S₁ S₂ (before .message)) .answer ≡ done
-  pub joins : (join p I₁ I₂ (said .message .«V») (before .join)) .answer ≡ done
-  pub joined : (join p I₁ I₂ (said .message .«V») (before .join)) .outputs ≡ joinOf p A S₁ S₂
-  pub agrees : (verdict p I₁ I₂ (said .message) C (before .verdict)) .answer ≡ «yes»
-  pub folds : (witness p (said .S~) C (before .witness)) .answer ≡ done
+pub record FoldAccepted (p : Parameters) (f : Profile) (A : List ℕ) (I₁ I₂ : Instance) (S₁ S₂ : List ℤ) (C : List ℕ) (before : Before) (said : Prepared) : Type 0 where
+  pub messages : (messageIn p f A S₁ S₂ (before .message)) .answer ≡ done
+  pub joins : (joinIn p f I₁ I₂ (said .message .«V») (before .join)) .answer ≡ done
+  pub joined : (joinIn p f I₁ I₂ (said .message .«V») (before .join)) .outputs ≡ joinOf p A S₁ (repeatedS p f S₂)
+  pub agrees : (verdictIn p f I₁ I₂ (said .message) C (before .verdict)) .answer ≡ «yes»
+  pub folds : (witnessIn p f (said .S~) C (before .witness)) .answer ≡ done
 
 -- no call of the tree is refused, every verdict is yes, and every join is A [S1 S2] with its products
 unfoldable pub AllAccepted : (p : Parameters) (A : List ℕ) (t : Tree) → Held t → Type 0
 AllAccepted p A (leaf S) held = (commit p A S held) .answer ≡ done
 AllAccepted p A (fold left right C) held =
     AllAccepted p A left (held .0) × AllAccepted p A right (held .1)
-    × FoldAccepted p A (seen p (viewOf p A left (held .0))) (seen p (viewOf p A right (held .1)))
+    × FoldAccepted p General A (seen p (viewOf p A left (held .0))) (seen p (viewOf p A right (held .1)))
     (leftWitness p A left (held .0)) (leftWitness p A right (held .1)) C (held .2)
     ((prepares p A left right (held .0) (held .1) (held .2)) .outputs)
+AllAccepted p A (foldFresh left v C) held =
+    AllAccepted p A left (held .0) × ((commitIn p Fresh A v (held .1)) .answer ≡ done)
+    × FoldAccepted p Fresh A (seen p (viewOf p A left (held .0))) ((commitIn p Fresh A v (held .1)) .outputs)
+    (leftWitness p A left (held .0)) v C (held .2) ((preparesFresh p A left v (held .0) (held .2)) .outputs)
 
 -- demand 3, of one tree and of what its outputs held: at the root the witness S is the plain tree's, the verifier's T and D
 -- are A S modulo 2^64 and S-transposed S and so in relation (1) with S, and each column of S is within B

@@ -6,18 +6,21 @@ use Rattle.integers.specs.Residues.{word}
 use Rattle.matrices.specs.Matrices.{product, bothSides, Agree}
 use Rattle.settings.specs.Rules.{Rule, _gives_, firstOf}
 use Rattle.settings.specs.Settings.{Parameters, NOf, HOf}
+use Rattle.lova.specs.declared.Profile.{Profile}
+use Rattle.lova.specs.declared.Profile.the-variants.{General}
+use Rattle.lova.specs.Repeats.{repeatedInstance, repeatedMessage}
 use Rattle.lova.specs.Answers.{afterSetting, «yes», long, norm, commitment, Outcome, ends, unlessRefused}
-use Rattle.lova.specs.Stored.{Instance, Message, matrixT, matrixD, matrixT~, matrixD~, readC}
-use Rattle.lova.specs.Tests.{equal, equalWords, bounded, fitsInstance, fitsMessage, fitsC, diagonalWithin, areTernary}
+use Rattle.lova.specs.Stored.{Instance, Message, matrixT, matrixD, matrixT~, matrixD~, columnsOf, sentD~, readC}
+use Rattle.lova.specs.Tests.{equal, equalWords, bounded, fitsInstance, fitsRight, fitsMessage, fitsC, diagonalWithin, areTernary}
 use Rattle.lova.specs.Calls.{DiagonalWithin}
 use Rattle.lova.specs.Fold.{besideT, blocksD, gadget}
 
 -- after 1 to 6: 7 for a length; 9 for a byte of C above 2; 10 for an entry of D~ above H or below −H
-unfoldable pub verdictRules : Parameters → Instance → Instance → Message → List ℕ → Instance → List Rule
-verdictRules p I₁ I₂ M C out =
-    (not (fitsInstance p I₁ && fitsInstance p I₂ && fitsMessage p M && fitsC p C && fitsInstance p out) gives 7)
+unfoldable pub verdictRules : Parameters → Profile → Instance → Instance → Message → List ℕ → Instance → List Rule
+verdictRules p f I₁ I₂ M C out =
+    (not (fitsInstance p I₁ && fitsRight p f I₂ && fitsMessage p f M && fitsC p C && fitsInstance p out) gives 7)
     ∷ (not (areTernary p C) gives 9)
-    ∷ (not (bounded (NOf p) (NOf p) (HOf p) (matrixD~ p .read (M .D~))) gives 10)
+    ∷ (not (bounded (columnsOf p f) (columnsOf p f) (HOf p) (sentD~ p f .read (M .D~))) gives 10)
     ∷ []
 
 module _ (p : Parameters) (I₁ I₂ : Instance) where
@@ -59,7 +62,15 @@ verdictBy within first second before after =
     cond (not within) (ends long before)
     (cond (not first) (ends norm before) (cond (not second) (ends commitment before) (ends «yes» after)))
 
-unfoldable pub verdict : Parameters → Instance → Instance → Message → List ℕ → Instance → Outcome Instance
-verdict p I₁ I₂ M C out =
-    unlessRefused (firstOf (afterSetting p (verdictRules p I₁ I₂ M C out))) out
-    (verdictBy (diagonalsHold p I₁ I₂) (firstHolds p I₁ I₂ M) (secondHolds p I₁ I₂ M) out (foldedInstance p M C))
+-- what is judged and folded is the general call's, with all that is fresh repeated
+unfoldable pub judgedIn : Parameters → Profile → Instance → Instance → Message → List ℕ → Instance → Outcome Instance
+judgedIn p f I₁ I₂ M C out =
+    let R₂ = repeatedInstance p f I₂ in
+    let R = repeatedMessage p f M in
+    verdictBy (diagonalsHold p I₁ R₂) (firstHolds p I₁ R₂ R) (secondHolds p I₁ R₂ R) out (foldedInstance p R C)
+
+unfoldable pub verdictIn : Parameters → Profile → Instance → Instance → Message → List ℕ → Instance → Outcome Instance
+verdictIn p f I₁ I₂ M C out = unlessRefused (firstOf (afterSetting p (verdictRules p f I₁ I₂ M C out))) out (judgedIn p f I₁ I₂ M C out)
+
+abbrev pub verdict : Parameters → Instance → Instance → Message → List ℕ → Instance → Outcome Instance
+verdict p I₁ I₂ M C out = verdictIn p General I₁ I₂ M C out

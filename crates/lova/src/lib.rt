@@ -1,4 +1,6 @@
-// The answers of the six operations of a fold.
+// The answers of the six operations of a fold, and their profiles.
+ghost use mathlib.Core.Path.{_≡_};
+ghost use Rattle.lova.specs.Stored.{rightFor, copiesFor};
 
 // Of commit, join, message and folded witness.
 pub enum Answer {
@@ -22,4 +24,34 @@ pub enum Membership {
     Products,
     Commitment,
     Refused(u8),
+}
+
+// The profile of a call: the second witness has t columns, or it is one vector that stands for t equal columns.
+pub enum Profile {
+    General,
+    Fresh,
+}
+
+impl Profile {
+    // The columns of the second witness, where the first has t.
+    pub fn right(self, t: usize) -> usize
+        ensures { λ r. ⌜ r ≡ rightFor t self ⌝ }
+    {
+        let profile = self;
+        match profile {
+            Profile::General => t,
+            Profile::Fresh => 1,
+        }
+    }
+
+    // How often each of them stands in the general fold.
+    pub fn copies(self, t: usize) -> usize
+        ensures { λ r. ⌜ r ≡ copiesFor t self ⌝ }
+    {
+        let profile = self;
+        match profile {
+            Profile::General => 1,
+            Profile::Fresh => t,
+        }
+    }
 }

@@ -5,3 +5,4 @@ pub mod Bounds
 pub mod Elements
 pub mod Turns
 pub mod Examples
+pub mod Contracted

@@ -1,6 +1,8 @@
 -- Matrices of whole numbers, as functions of row and column.
 use mathlib.Core.Path.{_≡_}
-use Prim.Native.Nat.{ℕ, _*_, _<_}
+use mathlib.Core.Bool.{cond}
+use Prim.Native.Nat.{ℕ, _+_, _*_, _-_, _<_}
+use lib.Dec.{ltb}
 use lib.IntN.{ℤ, natAbs, _*ℤ_}
 use Rattle.integers.specs.Sums.{sum, sumℕ}
 
@@ -23,6 +25,10 @@ gram m X = product m (transposed X) X
 -- C transposed times D times C, where C has p rows
 abbrev pub bothSides : ℕ → Matrix → Matrix → Matrix
 bothSides p C D = product p (product p (transposed C) D) C
+
+-- the first `left` rows of C, and then the sum of the blocks of `block` rows that follow, as many as there are copies
+unfoldable pub contracted : ℕ → ℕ → ℕ → Matrix → Matrix
+contracted left block copies C i j = cond (ltb i left) (C i j) (sum copies (λ a. C (left + (a * block + (i - left))) j))
 
 -- the squared length of column j of X, which has m rows
 abbrev pub squaredLength : ℕ → Matrix → ℕ → ℕ

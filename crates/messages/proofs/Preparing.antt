@@ -1,5 +1,5 @@
 -- Message: what its products ask of a proper call, and what they leave together.
-use mathlib.Core.Path.{_≡_, refl, _∙_, ap}
+use mathlib.Core.Path.{_≡_, refl, sym, _∙_, ap, ap₂}
 use mathlib.Core.List.{List}
 use Prim.Native.Nat.{ℕ, _+_, _*_, _^_, _<_, _≤_}
 use native.Mathlib.Omega.{arith}
@@ -12,88 +12,105 @@ use Rattle.matrices.specs.Tables.{table, signed, unsigned}
 use Rattle.matrices.proofs.Matrices.{product-cong}
 use Rattle.matrices.proofs.Tables.{length-table, entry-table, table-cong}
 use Rattle.settings.specs.declared.Setting.{Setting}
-use Rattle.settings.specs.Settings.{Parameters, kOf, NOf, hOf, parametersOf}
+use Rattle.settings.specs.Settings.{Parameters, kOf, hOf, parametersOf}
 use Rattle.small_rows.specs.Small.{Within, SmallMatrix, SmallBlocks}
 use Rattle.small_rows.proofs.Small.{small-blocks}
-use Rattle.lova.specs.Stored.{Prepared}
+use Rattle.lova.specs.declared.Profile.{Profile}
+use Rattle.lova.specs.declared.Profile.the-variants.{General}
+use Rattle.lova.specs.Stored.{Prepared, rightFor, columnsOf}
 use Rattle.lova.specs.Calls.{Rebuilt, ProperMessage}
-use Rattle.lova.specs.Fold.{besideS, digitWitness}
-use Rattle.lova.specs.Message.{preparedOf}
+use Rattle.lova.specs.Fold.{beside, digitWitness}
+use Rattle.lova.specs.Message.{preparedIn}
 use Rattle.lova.proofs.Gadget.{digit-size}
 use Rattle.lova.proofs.NeverWraps.{columns-fit}
 use Rattle.lova.proofs.Tests.{bounded-everywhere}
-use Rattle.lova.proofs.Rebuilding.{rebuilt-accepted, N-is, N-high}
-use Rattle.digit_witnesses.proofs.DigitRows.{both-wide}
+use Rattle.lova.proofs.Rebuilding.{rebuilt-accepted}
+use Rattle.lova.proofs.Widths.{columns-are, wide-of, wide-few}
 
--- the products with a digit witness as it is stored are those with the witness itself
-module _ (p : Parameters) (X : Matrix) (S~ : List ℤ) (is : S~ ≡ table (p .m) (NOf p) X) where
-  reads : Agree (p .m) (NOf p) (signed (NOf p) S~) X
-  reads i j hi hj = rw is (entry-table (pos 0) (p .m) (NOf p) X i j hi hj)
+-- the products with a matrix as it is stored are those with the matrix itself
+module _ (m w : ℕ) (X : Matrix) (S~ : List ℤ) (is : S~ ≡ table m w X) where
+  reads : Agree m w (signed w S~) X
+  reads i j hi hj = rw is (entry-table (pos 0) m w X i j hi hj)
 
-  pub stored-commitment : (A : List ℕ) → table (p .n) (NOf p) (λ i j. word (product (p .m) (unsigned (p .m) A) (signed (NOf p) S~) i j)) ≡ table (p .n) (NOf p) (λ i j. word (product (p .m) (unsigned (p .m) A) X i j))
-  stored-commitment A = table-cong 0 (p .n) (NOf p) _ _ (λ i j hi hj. ap word (product-cong (p .m) (unsigned (p .m) A) (unsigned (p .m) A) (signed (NOf p) S~) X i j (λ k h. refl) (λ k h. reads k j h hj)))
+  stored-commitment : (n : ℕ) (A : List ℕ) → table n w (λ i j. word (product m (unsigned m A) (signed w S~) i j)) ≡ table n w (λ i j. word (product m (unsigned m A) X i j))
+  stored-commitment n A = table-cong 0 n w _ _ (λ i j hi hj. ap word (product-cong m (unsigned m A) (unsigned m A) (signed w S~) X i j (λ k h. refl) (λ k h. reads k j h hj)))
 
-  pub stored-gram : table (NOf p) (NOf p) (gram (p .m) (signed (NOf p) S~)) ≡ table (NOf p) (NOf p) (gram (p .m) X)
-  stored-gram = table-cong (pos 0) (NOf p) (NOf p) _ _ (λ i j hi hj. product-cong (p .m) (transposed (signed (NOf p) S~)) (transposed X) (signed (NOf p) S~) X i j (λ k h. reads k i h hi) (λ k h. reads k j h hj))
+  stored-gram : table w w (gram m (signed w S~)) ≡ table w w (gram m X)
+  stored-gram = table-cong (pos 0) w w _ _ (λ i j hi hj. product-cong m (transposed (signed w S~)) (transposed X) (signed w S~) X i j (λ k h. reads k i h hi) (λ k h. reads k j h hj))
 
-module _ (s : Setting) (whole : Rebuilt s) (A : List ℕ) (S₁ S₂ : List ℤ) (out : Prepared) (proper : ProperMessage (parametersOf s) A S₁ S₂ out) where
-  -- the five numbers of the setting, and its digit witness
+-- `right` is what the profile gives: the columns of the second witness
+module _ (s : Setting) (whole : Rebuilt s) (f : Profile) (right : ℕ) (is : right ≡ rightFor (s .t) f) where
+  -- the five numbers of the setting, and how wide the code makes the digit witness
   abbrev q : Parameters
   q = parametersOf s
 
-  abbrev X : Matrix
-  X = digitWitness q (besideS q S₁ S₂)
+  abbrev wide : ℕ
+  wide = (s .t + right) * s .k
 
-  pub cross-lengths : (length S₁ ≡ s .m * s .t) × (length S₂ ≡ s .m * s .t) × (length (out .message .«V») ≡ s .t * s .t)
-  cross-lengths = let l = proper .lengths in (l .1, l .2, l .3 .0 .0)
+  sent : (s .t + right) * kOf q ≡ columnsOf q f
+  sent = ap (λ (r : ℕ). (s .t + r) * kOf q) is ∙ sym (columns-are q f)
 
-  pub cross-sizes : (i j : ℕ) → i < s .t → j < s .t → sizes (s .m) (transposed (signed (s .t) S₁)) (signed (s .t) S₂) i j ≤ 2 ^ 62
-  cross-sizes = columns-fit q (rebuilt-accepted s whole) S₁ S₂ (proper .columns .0) (proper .columns .1)
+  module _ (A : List ℕ) (S₁ S₂ : List ℤ) (out : Prepared) (proper : ProperMessage q f A S₁ S₂ out) where
+    -- the digit witness of both, with so many columns of the second
+    abbrev digits : ℕ → Matrix
+    digits r = digitWitness q (beside (s .t) (signed (s .t) S₁) (signed r S₂))
 
-  pub witness-lengths : (length S₁ ≡ s .m * s .t) × (length S₂ ≡ s .m * s .t)
-      × (length (out .S~) ≡ s .m * ((s .t + s .t) * kOf q))
-  witness-lengths = let l = proper .lengths in (l .1, l .2, rw (both-wide q) (l .3 .1))
+    abbrev X : Matrix
+    X = digits (rightFor (s .t) f)
 
-  -- with the digit witness written
-  module _ (S~ : List ℤ) (made : S~ ≡ table (s .m) ((s .t + s .t) * kOf q) X) where
-    written : S~ ≡ table (s .m) (NOf q) X
-    written = made ∙ ap (λ (N : ℕ). table (s .m) N X) (both-wide q)
+    pub cross-lengths : (length S₁ ≡ s .m * s .t) × (length S₂ ≡ s .m * right) × (length (out .message .«V») ≡ s .t * right)
+    cross-lengths = let l = proper .lengths in rw is (l .1, l .2, l .3 .0 .0)
 
-    long : length S~ ≡ s .m * NOf q
-    long = ap length written ∙ length-table (s .m) (NOf q) X
+    pub cross-sizes : (i j : ℕ) → i < s .t → j < right → sizes (s .m) (transposed (signed (s .t) S₁)) (signed right S₂) i j ≤ 2 ^ 62
+    cross-sizes = rw is (columns-fit q (rebuilt-accepted s whole) General f S₁ S₂ (proper .columns .0) (proper .columns .1))
 
-    pub commitment-lengths : (length A ≡ s .n * s .m) × (length S~ ≡ s .m * s .columns) × (length (out .message .T~) ≡ s .n * s .columns)
-    commitment-lengths =
-        let l = proper .lengths in
-        let n = N-is s whole in
-        (l .0, rw n long, rw n (l .3 .0 .1))
+    pub witness-lengths : (length S₁ ≡ s .m * s .t) × (length S₂ ≡ s .m * right) × (length (out .S~) ≡ s .m * ((s .t + right) * kOf q))
+    witness-lengths = (cross-lengths .0, cross-lengths .1, rw sent (proper .lengths .3 .1))
 
-    small : Within 1024 S~
-    small i = le-trans (bounded-everywhere (s .m) (NOf q) (hOf q) S~ long (λ i j hi hj. rw (written, entry-table (pos 0) (s .m) (NOf q) X i j hi hj) (digit-size q (besideS q S₁ S₂) i j (rebuilt-accepted s whole .b-low))) i) (rebuilt-accepted s whole .digits-small)
+    -- with the digit witness written
+    module _ (S~ : List ℤ) (made : S~ ≡ table (s .m) ((s .t + right) * kOf q) (digits right)) where
+      written : S~ ≡ table (s .m) (columnsOf q f) X
+      written = made ∙ ap₂ (λ (w r : ℕ). table (s .m) w (digits r)) sent is
 
-    pub gram-asks : SmallMatrix 32767 (s .m) (s .columns) S~ × SmallBlocks (s .columns) S~ × (s .m ≤ 4096) × (length (out .message .D~) ≡ s .columns * s .columns)
-    gram-asks =
-        let n = N-is s whole in (
-          record { long = rw n long; few = N-high s whole; small = λ i. omega (arith, small i) },
-          small-blocks 1024 (s .columns) S~ (omega arith) small,
-          rebuilt-accepted s whole .m-high,
-          rw n (proper .lengths .3 .0 .2),
-        )
+      long : length S~ ≡ s .m * columnsOf q f
+      long = ap length written ∙ length-table (s .m) (columnsOf q f) X
 
-    pub prepared-is : («V» : List ℤ) (T~ : List ℕ) (D~ : List ℤ)
-        → «V» ≡ table (s .t) (s .t) (product (s .m) (transposed (signed (s .t) S₁)) (signed (s .t) S₂))
-        → T~ ≡ table (s .n) (s .columns) (λ i j. word (product (s .m) (unsigned (s .m) A) (signed (s .columns) S~) i j))
-        → D~ ≡ table (s .columns) (s .columns) (gram (s .m) (signed (s .columns) S~))
-        → _≡_ {A = Prepared} (record { message = record { «V» = «V»; T~ = T~; D~ = D~ }; S~ = S~ }) (preparedOf q A S₁ S₂)
-    unfolding preparedOf
-    prepared-is «V» T~ D~ v t d = whole-of v commitments squares written
-      where
-        commitments : T~ ≡ table (s .n) (NOf q) (λ i j. word (product (s .m) (unsigned (s .m) A) X i j))
-        commitments = t ∙ ap (λ (N : ℕ). table (s .n) N (λ i j. word (product (s .m) (unsigned (s .m) A) (signed N S~) i j))) (N-is s whole) ∙ stored-commitment q X S~ written A
+      pub commitment-lengths : (length A ≡ s .n * s .m) × (length S~ ≡ s .m * wide) × (length (out .message .T~) ≡ s .n * wide)
+      commitment-lengths = let l = proper .lengths in rw (wide-of s whole f right is) (l .0, long, l .3 .0 .1)
 
-        squares : D~ ≡ table (NOf q) (NOf q) (gram (s .m) X)
-        squares = d ∙ ap (λ (N : ℕ). table N N (gram (s .m) (signed N S~))) (N-is s whole) ∙ stored-gram q X S~ written
+      small : Within 1024 S~
+      small i = le-trans
+          (bounded-everywhere (s .m) (columnsOf q f) (hOf q) S~ long (λ i j hi hj. rw (written, entry-table (pos 0) (s .m) (columnsOf q f) X i j hi hj) (digit-size q _ i j (rebuilt-accepted s whole .b-low))) i)
+          (rebuilt-accepted s whole .digits-small)
 
-        whole-of : {v₁ v₂ d₁ d₂ s₁ s₂ : List ℤ} {t₁ t₂ : List ℕ} → v₁ ≡ v₂ → t₁ ≡ t₂ → d₁ ≡ d₂ → s₁ ≡ s₂
-            → _≡_ {A = Prepared} (record { message = record { «V» = v₁; T~ = t₁; D~ = d₁ }; S~ = s₁ }) (record { message = record { «V» = v₂; T~ = t₂; D~ = d₂ }; S~ = s₂ })
-        whole-of a b c e = cc
+      pub gram-asks : SmallMatrix 32767 (s .m) wide S~ × SmallBlocks wide S~ × (s .m ≤ 4096) × (length (out .message .D~) ≡ wide * wide)
+      gram-asks =
+          let w = wide-of s whole f right is in (
+            record { long = rw w long; few = wide-few s whole f right is; small = λ i. omega (arith, small i) },
+            small-blocks 1024 wide S~ (omega arith) small,
+            rebuilt-accepted s whole .m-high,
+            rw w (proper .lengths .3 .0 .2),
+          )
+
+      pub prepared-is : («V» : List ℤ) (T~ : List ℕ) (D~ : List ℤ)
+          → «V» ≡ table (s .t) right (product (s .m) (transposed (signed (s .t) S₁)) (signed right S₂))
+          → T~ ≡ table (s .n) wide (λ i j. word (product (s .m) (unsigned (s .m) A) (signed wide S~) i j))
+          → D~ ≡ table wide wide (gram (s .m) (signed wide S~))
+          → _≡_ {A = Prepared} (record { message = record { «V» = «V»; T~ = T~; D~ = D~ }; S~ = S~ }) (preparedIn q f A S₁ S₂)
+      unfolding preparedIn
+      prepared-is «V» T~ D~ v t d = whole-of crosses commitments squares written
+        where
+          crosses : «V» ≡ table (s .t) (rightFor (s .t) f) (product (s .m) (transposed (signed (s .t) S₁)) (signed (rightFor (s .t) f) S₂))
+          crosses = v ∙ ap (λ (r : ℕ). table (s .t) r (product (s .m) (transposed (signed (s .t) S₁)) (signed r S₂))) is
+
+          commitments : T~ ≡ table (s .n) (columnsOf q f) (λ i j. word (product (s .m) (unsigned (s .m) A) X i j))
+          commitments =
+              t ∙ ap (λ (w : ℕ). table (s .n) w (λ i j. word (product (s .m) (unsigned (s .m) A) (signed w S~) i j))) (wide-of s whole f right is)
+              ∙ stored-commitment (s .m) (columnsOf q f) X S~ written (s .n) A
+
+          squares : D~ ≡ table (columnsOf q f) (columnsOf q f) (gram (s .m) X)
+          squares = d ∙ ap (λ (w : ℕ). table w w (gram (s .m) (signed w S~))) (wide-of s whole f right is) ∙ stored-gram (s .m) (columnsOf q f) X S~ written
+
+          whole-of : {v₁ v₂ d₁ d₂ s₁ s₂ : List ℤ} {t₁ t₂ : List ℕ} → v₁ ≡ v₂ → t₁ ≡ t₂ → d₁ ≡ d₂ → s₁ ≡ s₂
+              → _≡_ {A = Prepared} (record { message = record { «V» = v₁; T~ = t₁; D~ = d₁ }; S~ = s₁ }) (record { message = record { «V» = v₂; T~ = t₂; D~ = d₂ }; S~ = s₂ })
+          whole-of a b c e = cc

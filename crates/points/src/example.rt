@@ -1,5 +1,6 @@
 // Document 01's fold: Setting 1 with A = 3, witnesses 7 and -5. Outputs hold 111, -222 or -333 before.
 use lova::Answer;
+use lova::Profile;
 use settings::Setting;
 use shown::lines;
 use shown::print;
@@ -28,7 +29,7 @@ pub(crate) fn one() -> Setting {
 pub(crate) fn committed(a: [u64; 1], s: [i64; 1]) -> Instance {
     let mut t = [111u64; 1];
     let mut d = [-222i64; 1];
-    lines::commit(one(), &a, &s, &mut t, &mut d);
+    lines::commit(one(), Profile::General, &a, &s, &mut t, &mut d);
     Instance { t: t, d: d }
 }
 
@@ -48,7 +49,17 @@ fn message(setting: Setting, t1: &[u64], d1: &[i64], t2: &[u64], d2: &[i64]) {
     let mut tt = [111u64; 10];
     let mut dd = [-222i64; 100];
     let mut ss = [-333i64; 10];
-    let given = messages::message(setting, &A, &S1, &S2, &mut v, &mut tt, &mut dd, &mut ss);
+    let given = messages::message(
+        setting,
+        Profile::General,
+        &A,
+        &S1,
+        &S2,
+        &mut v,
+        &mut tt,
+        &mut dd,
+        &mut ss,
+    );
     verdicts(setting, given, t1, d1, t2, d2, &v, &tt, dd, &ss);
 }
 
@@ -88,7 +99,20 @@ fn folded(
     let mut d = [-222i64; 1];
     let mut s = [-333i64; 1];
     print::text(b"fold");
-    lines::verdict(setting, t1, d1, t2, d2, v, tt, dd, c, &mut t, &mut d);
-    lines::folded_witness(setting, ss, c, &mut s);
+    lines::verdict(
+        setting,
+        Profile::General,
+        t1,
+        d1,
+        t2,
+        d2,
+        v,
+        tt,
+        dd,
+        c,
+        &mut t,
+        &mut d,
+    );
+    lines::folded_witness(setting, Profile::General, ss, c, &mut s);
     lines::relation_test(setting, &A, &t, &d, &s);
 }

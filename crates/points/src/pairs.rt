@@ -1,6 +1,7 @@
 // A fold at t = 2, where what is plausible and wrong shows, since columns and powers, and V and its transpose, differ:
 // k = 4, N = 16, h = 1, H = 2. Outputs hold 111, -222 or -333 before.
 use lova::Answer;
+use lova::Profile;
 use settings::Setting;
 use shown::answers;
 use shown::lines;
@@ -73,7 +74,7 @@ fn pair() -> Setting {
 fn committed(s: [i64; 4]) -> Instance {
     let mut t = [111u64; 2];
     let mut d = [-222i64; 4];
-    lines::commit(pair(), &A, &s, &mut t, &mut d);
+    lines::commit(pair(), Profile::General, &A, &s, &mut t, &mut d);
     Instance { t: t, d: d }
 }
 
@@ -83,7 +84,17 @@ fn message(setting: Setting, t1: &[u64], d1: &[i64], t2: &[u64], d2: &[i64]) {
     let mut tt = [111u64; 16];
     let mut dd = [-222i64; 256];
     let mut ss = [-333i64; 32];
-    let given = messages::message(setting, &A, &S1, &S2, &mut v, &mut tt, &mut dd, &mut ss);
+    let given = messages::message(
+        setting,
+        Profile::General,
+        &A,
+        &S1,
+        &S2,
+        &mut v,
+        &mut tt,
+        &mut dd,
+        &mut ss,
+    );
     verdicts(setting, given, t1, d1, t2, d2, &v, &tt, dd, &ss);
 }
 
@@ -111,7 +122,7 @@ fn verdicts(
 fn joined(setting: Setting, t1: &[u64], d1: &[i64], t2: &[u64], d2: &[i64], v: &[i64]) {
     let mut t = [111u64; 4];
     let mut d = [-222i64; 16];
-    let given = joins::join(setting, t1, d1, t2, d2, v, &mut t, &mut d);
+    let given = joins::join(setting, Profile::General, t1, d1, t2, d2, v, &mut t, &mut d);
     lines::join(given, &t, &d);
 }
 
@@ -132,8 +143,21 @@ fn folded(
     let mut d = [-222i64; 4];
     let mut s = [-333i64; 4];
     print::text(b"fold");
-    lines::verdict(setting, t1, d1, t2, d2, v, tt, dd, c, &mut t, &mut d);
-    lines::folded_witness(setting, ss, c, &mut s);
+    lines::verdict(
+        setting,
+        Profile::General,
+        t1,
+        d1,
+        t2,
+        d2,
+        v,
+        tt,
+        dd,
+        c,
+        &mut t,
+        &mut d,
+    );
+    lines::folded_witness(setting, Profile::General, ss, c, &mut s);
     lines::relation_test(setting, &A, &t, &d, &s);
 }
 
@@ -152,7 +176,20 @@ fn turned(
     let mut t = [111u64; 2];
     let mut d = [-222i64; 4];
     print::text(b"V transposed");
-    lines::verdict(setting, t1, d1, t2, d2, &v, tt, dd, &c, &mut t, &mut d);
+    lines::verdict(
+        setting,
+        Profile::General,
+        t1,
+        d1,
+        t2,
+        d2,
+        &v,
+        tt,
+        dd,
+        &c,
+        &mut t,
+        &mut d,
+    );
 }
 
 // A message with an entry of D~ above H. The honest entry is H, which is above h^2. T' and D' stay as they are.
@@ -171,5 +208,18 @@ fn too_large(
     let mut d = [-222i64; 4];
     print::signed(b"3 for the entry of D~ that is ", dd[0]);
     dd[0] = 3;
-    lines::verdict(setting, t1, d1, t2, d2, v, tt, &dd, &c, &mut t, &mut d);
+    lines::verdict(
+        setting,
+        Profile::General,
+        t1,
+        d1,
+        t2,
+        d2,
+        v,
+        tt,
+        &dd,
+        &c,
+        &mut t,
+        &mut d,
+    );
 }

@@ -60,7 +60,7 @@ pub extern "C" fn product_d(d: &[i64], c: &[u8], n: usize, t: usize, out: &mut [
 {
     let tt = [0u64; 0];
     let mut none = [0u64; 0];
-    challenge_folds::fold_instance(&tt, d, c, 0, n, t, &mut none, out);
+    challenge_folds::fold_instance(&tt, d, c, 0, n, 0, 1, t, &mut none, out);
 }
 
 // S': s, m by n, times a challenge c, n by t.
@@ -71,5 +71,5 @@ pub extern "C" fn product_s(s: &[i64], c: &[u8], m: usize, n: usize, t: usize, o
     ensures { λ _. ⌜ now (out .exit)
         ≡ table m t (product n (signed n (now (s .entry))) (challenge t (now (c .entry)))) ⌝ }
 {
-    challenge_folds::fold_digits(s, c, m, n, t, out);
+    challenge_folds::fold_digits(s, c, m, n, 0, 1, t, out);
 }

@@ -1,5 +1,6 @@
 // The prover's operations for C. A setting is its five numbers n, m, t, b and bound; each function returns a code.
-// `include/lova.h` declares them, beside those of `verifier_c` and `settings_c`.
+// `include/lova.h` declares them, beside those of `verifier_c` and `settings_c`; those with a fresh second witness
+// stand in `prover_fresh_c`.
 ghost use mathlib.Core.Path.{_≡_};
 ghost use Rattle.settings.specs.HouseList.{parameters};
 ghost use Rattle.lova.specs.Lent.{instanceBefore, instanceAfter, preparedBefore, preparedAfter};
@@ -7,6 +8,7 @@ ghost use Rattle.lova.specs.Commit.{commit};
 ghost use Rattle.lova.specs.Message.{message};
 ghost use Rattle.lova.specs.Witness.{witness};
 ghost use Rattle.codes.specs.Codes.{returned, coded};
+use lova::Profile;
 
 // Commit: writes T and D of the witness s. Refusals 1 to 8.
 #[no_mangle]
@@ -25,7 +27,8 @@ pub extern "C" fn lova_commit(
         ≡ coded (commit (parameters n m t b bound) (now (a .entry)) (now (s .entry))
         (instanceBefore «t_out» «d_out»)) ⌝ }
 {
-    let answer = commitments::commit(codes::setting_of(n, m, t, b, bound), a, s, t_out, d_out);
+    let setting = codes::setting_of(n, m, t, b, bound);
+    let answer = commitments::commit(setting, Profile::General, a, s, t_out, d_out);
     codes::code_of_answer(answer)
 }
 
@@ -50,7 +53,7 @@ pub extern "C" fn lova_message(
         (preparedBefore v tt dd ss)) ⌝ }
 {
     let setting = codes::setting_of(n, m, t, b, bound);
-    let answer = messages::message(setting, a, s1, s2, v, tt, dd, ss);
+    let answer = messages::message(setting, Profile::General, a, s1, s2, v, tt, dd, ss);
     codes::code_of_answer(answer)
 }
 
@@ -69,6 +72,7 @@ pub extern "C" fn lova_fold_witness(
     ensures { λ r. ⌜ returned r (now (s .exit))
         ≡ coded (witness (parameters n m t b bound) (now (ss .entry)) (now (c .entry)) (now (s .entry))) ⌝ }
 {
-    let answer = witnesses::fold_witness(codes::setting_of(n, m, t, b, bound), ss, c, s);
+    let setting = codes::setting_of(n, m, t, b, bound);
+    let answer = witnesses::fold_witness(setting, Profile::General, ss, c, s);
     codes::code_of_answer(answer)
 }

@@ -14,6 +14,7 @@ ghost use Rattle.lova.specs.Tests.{equal, equalWords, fits, fitsInstance};
 ghost use Rattle.lova.specs.Calls.{Rebuilt, Fits, Short};
 ghost use Rattle.lova.specs.Relation.{relationRules, relation};
 use lova::Membership;
+use lova::Profile;
 use settings::Setting;
 
 // Whether the slices have the lengths of their matrices.
@@ -25,7 +26,7 @@ fn relation_lengths(setting: Setting, a: &[u64], t: &[u64], d: &[i64], s: &[i64]
         && fits (matrixS (parametersOf setting)) (now (s .entry))) ⌝ }
 {
     a.len() == setting.n * setting.m
-        && scans::instance_fits(setting, t, d)
+        && scans::instance_fits(setting, Profile::General, t, d)
         && s.len() == setting.m * setting.t
 }
 
@@ -161,12 +162,12 @@ pub fn test_relation(setting: Setting, a: &[u64], t: &[u64], d: &[i64], s: &[i64
     ensures { λ r. ⌜ membershipOf r
         ≡ (relation (parametersOf setting) (now (a .entry)) (instanceBefore t d) (now (s .entry))) .answer ⌝ }
 {
-    let fresh = setting.rebuilt();
-    let number = fresh.refusal;
+    let checked = setting.rebuilt();
+    let number = checked.refusal;
     if number != 0 {
         return Membership::Refused(number);
     }
-    let accepted = fresh.setting;
+    let accepted = checked.setting;
     let own = relation_refusal(accepted, a, t, d, s);
     if own != 0 {
         return Membership::Refused(own);

@@ -1,5 +1,6 @@
 // Starts that are too long, in Setting 1 with A = 3. 11 is within B = 121, where k and N are those of Setting 1: its
 // instance and its message are made there, and judged by another B. Outputs hold 111, -222 or -333 before.
+use lova::Profile;
 use settings::Setting;
 use shown::lines;
 use shown::print;
@@ -26,8 +27,8 @@ fn fold(s1: [i64; 1], s2: [i64; 1]) {
     let mut d1 = [-222i64; 1];
     let mut t2 = [111u64; 1];
     let mut d2 = [-222i64; 1];
-    lines::commit(bounded(121), &A, &s1, &mut t1, &mut d1);
-    lines::commit(bounded(121), &A, &s2, &mut t2, &mut d2);
+    lines::commit(bounded(121), Profile::General, &A, &s1, &mut t1, &mut d1);
+    lines::commit(bounded(121), Profile::General, &A, &s2, &mut t2, &mut d2);
     message(&s1, &s2, &t1, &d1, &t2, &d2);
 }
 
@@ -37,7 +38,17 @@ fn message(s1: &[i64], s2: &[i64], t1: &[u64], d1: &[i64], t2: &[u64], d2: &[i64
     let mut tt = [111u64; 10];
     let mut dd = [-222i64; 100];
     let mut ss = [-333i64; 10];
-    let given = messages::message(bounded(121), &A, s1, s2, &mut v, &mut tt, &mut dd, &mut ss);
+    let given = messages::message(
+        bounded(121),
+        Profile::General,
+        &A,
+        s1,
+        s2,
+        &mut v,
+        &mut tt,
+        &mut dd,
+        &mut ss,
+    );
     lines::message(given, &v, &tt, &ss);
     verdicts(t1, d1, t2, d2, &v, &tt, dd);
 }
@@ -70,6 +81,7 @@ fn judged(
     print::number(b"fold by B = ", bound);
     lines::verdict(
         bounded(bound),
+        Profile::General,
         t1,
         d1,
         t2,

@@ -9,6 +9,7 @@ ghost use Rattle.lova.specs.Calls.{Rebuilt, Fits};
 ghost use Rattle.chain.specs.Limits.{small, programLimits};
 ghost use Rattle.chain.specs.Nodes.{nodeOf, FitsNode, nodeBefore, nodeAfter, leafOf};
 use lova::Answer;
+use lova::Profile;
 use settings::Setting;
 
 // Makes the node t, d, w a leaf with the witness s; a refusal leaves it as it was.
@@ -32,7 +33,14 @@ pub(crate) fn leaf(
     let mut made_d = [0i64; 4];
     let size_t = setting.n * setting.t;
     let size_d = setting.t * setting.t;
-    let answer = commitments::commit(setting, a, s, &mut made_t[..size_t], &mut made_d[..size_d]);
+    let answer = commitments::commit(
+        setting,
+        Profile::General,
+        a,
+        s,
+        &mut made_t[..size_t],
+        &mut made_d[..size_d],
+    );
     match answer {
         Answer::Refused(number) => Answer::Refused(number),
         Answer::Done => {

@@ -8,8 +8,9 @@ ghost use Rattle.matrices.specs.Matrices.{squaredLength};
 ghost use Rattle.matrices.specs.Tables.{entry, signed};
 ghost use Rattle.settings.specs.Settings.{parametersOf};
 ghost use Rattle.lova.specs.Lent.{instanceBefore, messageBefore};
-ghost use Rattle.lova.specs.Tests.{all, every, bounded, fitsInstance, fitsMessage};
+ghost use Rattle.lova.specs.Tests.{all, every, bounded, fitsRight, fitsMessage};
 ghost use Rattle.lova.specs.Calls.{Rebuilt};
+use lova::Profile;
 use settings::Setting;
 
 // Whether each column of s, which has m rows and `cols` columns, has a squared length of at most `bound`.
@@ -57,14 +58,6 @@ pub fn entries_within(x: &[i64], rows: usize, cols: usize, limit: u64) -> bool
     true
 }
 
-// Whether t and d have the lengths of an instance's T and D.
-pub fn instance_fits(setting: Setting, t: &[u64], d: &[i64]) -> bool
-    requires { ⌜ Rebuilt setting ⌝ }
-    ensures { λ r. ⌜ r ≡ fitsInstance (parametersOf setting) (instanceBefore t d) ⌝ }
-{
-    t.len() == setting.n * setting.t && d.len() == setting.t * setting.t
-}
-
 // Whether both hold. Lengths are joined by it, so that a test of many has no branch of its own for each.
 pub fn both(a: bool, b: bool) -> bool
     ensures { λ r. ⌜ r ≡ (a && b) ⌝ }
@@ -72,15 +65,22 @@ pub fn both(a: bool, b: bool) -> bool
     a && b
 }
 
-// Whether v, tt and dd have the lengths of a message's V, T~ and D~.
-pub fn message_fits(setting: Setting, v: &[i64], tt: &[u64], dd: &[i64]) -> bool
+// Whether t and d have the lengths of an instance's T and D; a first instance and a folded one are general.
+pub fn instance_fits(setting: Setting, profile: Profile, t: &[u64], d: &[i64]) -> bool
     requires { ⌜ Rebuilt setting ⌝ }
-    ensures { λ r. ⌜ r ≡ fitsMessage (parametersOf setting) (messageBefore v tt dd) ⌝ }
+    ensures { λ r. ⌜ r ≡ fitsRight (parametersOf setting) profile (instanceBefore t d) ⌝ }
 {
-    let wide = setting.columns;
-    let first = both(
-        v.len() == setting.t * setting.t,
-        tt.len() == setting.n * wide,
-    );
+    let right = profile.right(setting.t);
+    both(t.len() == setting.n * right, d.len() == right * right)
+}
+
+// Whether v, tt and dd have the lengths of a message's V, T~ and D~.
+pub fn message_fits(setting: Setting, profile: Profile, v: &[i64], tt: &[u64], dd: &[i64]) -> bool
+    requires { ⌜ Rebuilt setting ⌝ }
+    ensures { λ r. ⌜ r ≡ fitsMessage (parametersOf setting) profile (messageBefore v tt dd) ⌝ }
+{
+    let right = profile.right(setting.t);
+    let wide = (setting.t + right) * setting.k;
+    let first = both(v.len() == setting.t * right, tt.len() == setting.n * wide);
     both(first, dd.len() == wide * wide)
 }

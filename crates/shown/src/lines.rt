@@ -4,6 +4,7 @@
 use super::answers;
 use super::print;
 use lova::Answer;
+use lova::Profile;
 use settings::Setting;
 
 // T and D, which end their line.
@@ -21,10 +22,17 @@ pub fn digits(x: i64, b: u64, out: &[i64]) {
     print::end();
 }
 
-pub fn commit(setting: Setting, a: &[u64], s: &[i64], t: &mut [u64], d: &mut [i64]) {
+pub fn commit(
+    setting: Setting,
+    profile: Profile,
+    a: &[u64],
+    s: &[i64],
+    t: &mut [u64],
+    d: &mut [i64],
+) {
     print::words(b"commit, A:", a);
     print::whole(b", S:", s);
-    answers::answer(commitments::commit(setting, a, s, t, d));
+    answers::answer(commitments::commit(setting, profile, a, s, t, d));
     instance(t, d);
 }
 
@@ -46,6 +54,7 @@ pub fn join(given: Answer, t: &[u64], d: &[i64]) {
 // The caller writes what is judged, at the start of the line.
 pub fn verdict(
     setting: Setting,
+    profile: Profile,
     t1: &[u64],
     d1: &[i64],
     t2: &[u64],
@@ -57,7 +66,7 @@ pub fn verdict(
     t: &mut [u64],
     d: &mut [i64],
 ) {
-    answers::verdict(verdicts::verify(setting, t1, d1, t2, d2, v, tt, dd, c, t, d));
+    answers::verdict(verdicts::verify(setting, profile, t1, d1, t2, d2, v, tt, dd, c, t, d));
     instance(t, d);
 }
 
@@ -82,12 +91,25 @@ pub fn spoiled(
     c[9] = byte;
     let mut t = [111u64; 1];
     let mut d = [-222i64; 1];
-    verdict(setting, t1, d1, t2, d2, v, tt, &dd, &c, &mut t, &mut d);
+    verdict(
+        setting,
+        Profile::General,
+        t1,
+        d1,
+        t2,
+        d2,
+        v,
+        tt,
+        &dd,
+        &c,
+        &mut t,
+        &mut d,
+    );
 }
 
-pub fn folded_witness(setting: Setting, ss: &[i64], c: &[u8], s: &mut [i64]) {
+pub fn folded_witness(setting: Setting, profile: Profile, ss: &[i64], c: &[u8], s: &mut [i64]) {
     print::text(b"folded witness");
-    answers::answer(witnesses::fold_witness(setting, ss, c, s));
+    answers::answer(witnesses::fold_witness(setting, profile, ss, c, s));
     print::whole(b", S':", s);
     print::end();
 }

@@ -5,21 +5,25 @@ ghost use Prim.Native.Nat.{_*_};
 ghost use lib.IntN.{pos};
 ghost use lib.ListN.{length};
 ghost use lib.Signed.{leZ};
+ghost use Rattle.matrices.specs.Matrices.{product, bothSides};
 ghost use Rattle.matrices.specs.Tables.{signed};
 ghost use Rattle.settings.specs.Rules.{firstOf};
-ghost use Rattle.settings.specs.Settings.{parametersOf};
+ghost use Rattle.settings.specs.Settings.{parametersOf, HOf};
 ghost use Rattle.lova.specs.Answers.{ends, verdictOf};
 ghost use Rattle.lova.specs.Lent.{instanceBefore, instanceAfter, messageBefore};
-ghost use Rattle.lova.specs.Stored.{matrixD};
-ghost use Rattle.lova.specs.Tests.{all, fitsInstance, fitsMessage, fitsC, diagonalWithin};
-ghost use Rattle.lova.specs.Calls.{Rebuilt, Fits};
-ghost use Rattle.lova.specs.Verdict.{verdictRules, verdict};
+ghost use Rattle.lova.specs.Stored.{rightOf, columnsOf, matrixT, matrixD, rightD, sentT~, sentD~};
+ghost use Rattle.lova.specs.Repeats.{challengeIn};
+ghost use Rattle.lova.specs.Tests.{all, fitsInstance, fitsRight, fitsMessage, fitsC, diagonalWithin};
+ghost use Rattle.lova.specs.Calls.{Rebuilt, Fits, FitsC, Bounded};
+ghost use Rattle.lova.specs.Verdict.{verdictRules, verdictIn};
+use lova::Profile;
 use lova::Verdict;
 use settings::Setting;
 
 // Whether each slice has the length of its matrix.
 fn lengths_fit(
     setting: Setting,
+    profile: Profile,
     t1: &[u64],
     d1: &[i64],
     t2: &[u64],
@@ -34,30 +38,31 @@ fn lengths_fit(
     requires { ⌜ Rebuilt setting ⌝ }
     ensures { λ r. ⌜ r
         ≡ (fitsInstance (parametersOf setting) (instanceBefore t1 d1)
-        && fitsInstance (parametersOf setting) (instanceBefore t2 d2)
-        && fitsMessage (parametersOf setting) (messageBefore v tt dd)
+        && fitsRight (parametersOf setting) profile (instanceBefore t2 d2)
+        && fitsMessage (parametersOf setting) profile (messageBefore v tt dd)
         && fitsC (parametersOf setting) (now (c .entry))
         && fitsInstance (parametersOf setting) (instanceBefore t d)) ⌝ }
 {
-    if !scans::instance_fits(setting, t1, d1) {
+    if !scans::instance_fits(setting, Profile::General, t1, d1) {
         return false;
     }
-    if !scans::instance_fits(setting, t2, d2) {
+    if !scans::instance_fits(setting, profile, t2, d2) {
         return false;
     }
-    if !scans::message_fits(setting, v, tt, dd) {
+    if !scans::message_fits(setting, profile, v, tt, dd) {
         return false;
     }
     if c.len() != setting.columns * setting.t {
         return false;
     }
-    scans::instance_fits(setting, t, d)
+    scans::instance_fits(setting, Profile::General, t, d)
 }
 
 // 7 where a slice has not the length of its matrix, 9 where a byte of c is above 2, 10 where an entry of dd is above H
 // in size, else 0.
 fn verdict_refusal(
     setting: Setting,
+    profile: Profile,
     t1: &[u64],
     d1: &[i64],
     t2: &[u64],
@@ -71,22 +76,18 @@ fn verdict_refusal(
 ) -> u8
     requires { ⌜ Rebuilt setting ⌝ }
     ensures { λ r. ⌜ r
-        ≡ firstOf (verdictRules (parametersOf setting) (instanceBefore t1 d1) (instanceBefore t2 d2)
+        ≡ firstOf (verdictRules (parametersOf setting) profile (instanceBefore t1 d1) (instanceBefore t2 d2)
         (messageBefore v tt dd) (now (c .entry)) (instanceBefore t d)) ⌝ }
 {
-    if !lengths_fit(setting, t1, d1, t2, d2, v, tt, dd, c, t, d) {
+    if !lengths_fit(setting, profile, t1, d1, t2, d2, v, tt, dd, c, t, d) {
         return 7;
     }
     if !scans::are_ternary(c, setting.columns, setting.t) {
         return 9;
     }
+    let wide = (setting.t + profile.right(setting.t)) * setting.k;
     let h = setting.b / 2;
-    if !scans::entries_within(
-        dd,
-        setting.columns,
-        setting.columns,
-        h * h * (setting.m as u64),
-    ) {
+    if !scans::entries_within(dd, wide, wide, h * h * (setting.m as u64)) {
         return 10;
     }
     0
@@ -118,22 +119,55 @@ fn diagonal_within(d: &[i64], cols: usize, bound: u64) -> bool
 }
 
 // Whether no diagonal entry of d1 or d2 exceeds B.
-fn diagonals_hold(setting: Setting, d1: &[i64], d2: &[i64]) -> bool
+fn diagonals_hold(setting: Setting, profile: Profile, d1: &[i64], d2: &[i64]) -> bool
     requires { ⌜ Fits (matrixD (parametersOf setting)) (now d1)
-        × Fits (matrixD (parametersOf setting)) (now d2) ⌝ }
+        × Fits (rightD (parametersOf setting) profile) (now d2) ⌝ }
     ensures { λ r. ⌜ r
         ≡ (diagonalWithin (parametersOf setting) (now (d1 .entry))
-        && diagonalWithin (parametersOf setting) (now (d2 .entry))) ⌝ }
+        && all (rightOf (parametersOf setting) profile)
+        (λ i. leZ (rightD (parametersOf setting) profile .read (now (d2 .entry)) i i) (pos (setting .bound)))) ⌝ }
 {
     if !diagonal_within(d1, setting.t, setting.bound) {
         return false;
     }
-    diagonal_within(d2, setting.t, setting.bound)
+    diagonal_within(d2, profile.right(setting.t), setting.bound)
 }
 
-// Judges the message v, tt = T~, dd = D~ on two instances; on yes writes the folded t and d for the challenge c.
+// Writes the folded t and d: T~ = tt and D~ = dd by the challenge c, whose rows that meet the same column are added up.
+fn write_folded(
+    setting: Setting,
+    profile: Profile,
+    tt: &[u64],
+    dd: &[i64],
+    c: &[u8],
+    t: &mut [u64],
+    d: &mut [i64],
+)
+    requires { ⌜ Rebuilt setting × Fits (sentT~ (parametersOf setting) profile) (now tt)
+        × Fits (sentD~ (parametersOf setting) profile) (now dd) × FitsC (parametersOf setting) (now c)
+        × Fits (matrixT (parametersOf setting)) (now t) × Fits (matrixD (parametersOf setting)) (now d) ⌝ }
+    requires { ⌜ Bounded (columnsOf (parametersOf setting) profile) (columnsOf (parametersOf setting) profile)
+        (HOf (parametersOf setting)) (sentD~ (parametersOf setting) profile .read (now dd)) ⌝ }
+    ensures { λ _. ⌜ now (t .exit)
+        ≡ matrixT (parametersOf setting) .write (product (columnsOf (parametersOf setting) profile)
+        (sentT~ (parametersOf setting) profile .read (now (tt .entry)))
+        (challengeIn (parametersOf setting) profile (now (c .entry)))) ⌝ }
+    ensures { λ _. ⌜ now (d .exit)
+        ≡ matrixD (parametersOf setting) .write (bothSides (columnsOf (parametersOf setting) profile)
+        (challengeIn (parametersOf setting) profile (now (c .entry)))
+        (sentD~ (parametersOf setting) profile .read (now (dd .entry)))) ⌝ }
+{
+    let left = setting.t * setting.k;
+    let block = profile.right(setting.t) * setting.k;
+    let copies = profile.copies(setting.t);
+    challenge_folds::fold_instance(tt, dd, c, setting.n, left, block, copies, setting.t, t, d);
+}
+
+// Judges the message v, tt = T~, dd = D~ on two instances, the second of which may be a fresh one; on yes writes the
+// folded t and d for the challenge c.
 pub fn verify(
     setting: Setting,
+    profile: Profile,
     t1: &[u64],
     d1: &[i64],
     t2: &[u64],
@@ -146,28 +180,28 @@ pub fn verify(
     d: &mut [i64],
 ) -> Verdict
     ensures { λ r. ⌜ ends (verdictOf r) (instanceAfter t d)
-        ≡ verdict (parametersOf setting) (instanceBefore t1 d1) (instanceBefore t2 d2)
+        ≡ verdictIn (parametersOf setting) profile (instanceBefore t1 d1) (instanceBefore t2 d2)
         (messageBefore v tt dd) (now (c .entry)) (instanceBefore t d) ⌝ }
 {
-    let fresh = setting.rebuilt();
-    let number = fresh.refusal;
+    let checked = setting.rebuilt();
+    let number = checked.refusal;
     if number != 0 {
         return Verdict::Refused(number);
     }
-    let accepted = fresh.setting;
-    let own = verdict_refusal(accepted, t1, d1, t2, d2, v, tt, dd, c, t, d);
+    let accepted = checked.setting;
+    let own = verdict_refusal(accepted, profile, t1, d1, t2, d2, v, tt, dd, c, t, d);
     if own != 0 {
         return Verdict::Refused(own);
     }
-    if !diagonals_hold(accepted, d1, d2) {
+    if !diagonals_hold(accepted, profile, d1, d2) {
         return Verdict::Long;
     }
-    if !equations::norm_holds(accepted, d1, v, d2, dd) {
+    if !equations::norm_holds(accepted, profile, d1, v, d2, dd) {
         return Verdict::Norm;
     }
-    if !equations::commitment_holds(accepted, t1, t2, tt) {
+    if !equations::commitment_holds(accepted, profile, t1, t2, tt) {
         return Verdict::Commitment;
     }
-    challenge_folds::fold_instance(tt, dd, c, accepted.n, accepted.columns, accepted.t, t, d);
+    write_folded(accepted, profile, tt, dd, c, t, d);
     Verdict::Yes
 }

@@ -1,5 +1,6 @@
 // The verifier's operations and the relation test for C. A setting is its five numbers n, m, t, b and bound; each
-// function returns a code. `include/lova.h` declares them, beside those of `prover_c` and `settings_c`.
+// function returns a code. `include/lova.h` declares them, beside those of `prover_c` and `settings_c`; those with a
+// fresh second instance stand in `verifier_fresh_c`.
 ghost use mathlib.Core.Path.{_≡_};
 ghost use Rattle.settings.specs.HouseList.{parameters};
 ghost use Rattle.lova.specs.Lent.{instanceBefore, instanceAfter, messageBefore};
@@ -7,6 +8,7 @@ ghost use Rattle.lova.specs.Join.{join};
 ghost use Rattle.lova.specs.Verdict.{verdict};
 ghost use Rattle.lova.specs.Relation.{relation};
 ghost use Rattle.codes.specs.Codes.{codeOf, returned, coded};
+use lova::Profile;
 
 // Join: writes [T1 T2] and [D1 V; V-transposed D2]. Refusals 1 to 7.
 #[no_mangle]
@@ -29,7 +31,7 @@ pub extern "C" fn lova_join(
         (instanceBefore «t_out» «d_out»)) ⌝ }
 {
     let setting = codes::setting_of(n, m, t, b, bound);
-    let answer = joins::join(setting, t1, d1, t2, d2, v, t_out, d_out);
+    let answer = joins::join(setting, Profile::General, t1, d1, t2, d2, v, t_out, d_out);
     codes::code_of_answer(answer)
 }
 
@@ -57,7 +59,20 @@ pub extern "C" fn lova_verify(
         (messageBefore v tt dd) (now (c .entry)) (instanceBefore «t_out» «d_out»)) ⌝ }
 {
     let setting = codes::setting_of(n, m, t, b, bound);
-    let verdict = verdicts::verify(setting, t1, d1, t2, d2, v, tt, dd, c, t_out, d_out);
+    let verdict = verdicts::verify(
+        setting,
+        Profile::General,
+        t1,
+        d1,
+        t2,
+        d2,
+        v,
+        tt,
+        dd,
+        c,
+        t_out,
+        d_out,
+    );
     codes::code_of_verdict(verdict)
 }
 

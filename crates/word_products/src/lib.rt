@@ -112,24 +112,6 @@ fn commit_wide(a: &[u64], s: &[i64], n: usize, m: usize, cols: usize, out: &mut 
     }
 }
 
-// a times s, row by row, where s has at least one row: nothing has to be cleared before.
-fn commit_few(a: &[u64], s: &[i64], n: usize, m: usize, cols: usize, out: &mut [u64])
-    requires { ⌜ (length (now a) ≡ n * m) × (length (now s) ≡ m * cols) × (length (now out) ≡ n * cols)
-        × (0 < m) ⌝ }
-    ensures { λ _. ⌜ now (out .exit)
-        ≡ residues n cols (product m (unsigned m (now (a .entry))) (signed cols (now (s .entry)))) ⌝ }
-{
-    let mut i: usize = 0;
-    while i < n {
-        let from = i * m;
-        let to = from + m;
-        let start = i * cols;
-        let end = start + cols;
-        write_rows(&a[from..to], s, cols, &mut out[start..end]);
-        i += 1;
-    }
-}
-
 // The row x, of m words, times column j of s. Its entries are found by adding: k * cols + j would be a multiplication
 // more for each product.
 fn times_column(x: &[u64], s: &[i64], m: usize, cols: usize, j: usize) -> u64
@@ -145,6 +127,53 @@ fn times_column(x: &[u64], s: &[i64], m: usize, cols: usize, j: usize) -> u64
         k += 1;
     }
     sum
+}
+
+// Writes the row x times s into `row`, column by column: each sum is stored once.
+fn write_columns(x: &[u64], s: &[i64], cols: usize, row: &mut [u64])
+    requires { ⌜ (length (now s) ≡ length (now x) * cols) × (length (now row) ≡ cols) ⌝ }
+    ensures { λ _. ⌜ now (row .exit)
+        ≡ build cols
+        (λ j. word (rowTimes (length (now (x .entry))) (now (x .entry)) (signed cols (now (s .entry))) j)) ⌝ }
+{
+    let mut j: usize = 0;
+    while j < cols {
+        row[j] = times_column(x, s, x.len(), cols, j);
+        j += 1;
+    }
+}
+
+// Writes the row x, of at least one word, times s into `row`: a short row by the rows of s, a longer one by its columns.
+fn write_product(x: &[u64], s: &[i64], cols: usize, row: &mut [u64])
+    requires { ⌜ (length (now s) ≡ length (now x) * cols) × (length (now row) ≡ cols)
+        × (0 < length (now x)) ⌝ }
+    ensures { λ _. ⌜ now (row .exit)
+        ≡ build cols
+        (λ j. word (rowTimes (length (now (x .entry))) (now (x .entry)) (signed cols (now (s .entry))) j)) ⌝ }
+{
+    if x.len() < 4 {
+        write_rows(x, s, cols, row);
+    } else {
+        write_columns(x, s, cols, row);
+    }
+}
+
+// a times s, row by row, where s has at least one row: nothing has to be cleared before.
+fn commit_rows(a: &[u64], s: &[i64], n: usize, m: usize, cols: usize, out: &mut [u64])
+    requires { ⌜ (length (now a) ≡ n * m) × (length (now s) ≡ m * cols) × (length (now out) ≡ n * cols)
+        × (0 < m) ⌝ }
+    ensures { λ _. ⌜ now (out .exit)
+        ≡ residues n cols (product m (unsigned m (now (a .entry))) (signed cols (now (s .entry)))) ⌝ }
+{
+    let mut i: usize = 0;
+    while i < n {
+        let from = i * m;
+        let to = from + m;
+        let start = i * cols;
+        let end = start + cols;
+        write_product(&a[from..to], s, cols, &mut out[start..end]);
+        i += 1;
+    }
 }
 
 // a times s, entry by entry: each sum is stored once.
@@ -164,18 +193,19 @@ fn commit_narrow(a: &[u64], s: &[i64], n: usize, m: usize, cols: usize, out: &mu
 }
 
 // a times s modulo 2^64, as T~ is A S~: a has n rows and m columns, s has m rows and `cols` columns. With fewer than
-// four columns a product of the blocks waits for the sum that the one before it stored in the same word; in a short sum
-// the division that finds an entry's place would cost as much. With one to three rows of s, clearing `out` would cost
-// as much as adding a row.
+// four columns a product of the blocks would wait for the sum that the one before it stored in the same word, and with
+// one to three rows of s, clearing `out` would cost as much as adding a row. Only in a long sum does the division that
+// finds an entry's place not count; there the loop over entries reads a, which the first cache does not hold, faster
+// than that over rows.
 pub fn commitment(a: &[u64], s: &[i64], n: usize, m: usize, cols: usize, out: &mut [u64])
     requires { ⌜ (length (now a) ≡ n * m) × (length (now s) ≡ m * cols) × (length (now out) ≡ n * cols) ⌝ }
     ensures { λ _. ⌜ now (out .exit)
         ≡ residues n cols (product m (unsigned m (now (a .entry))) (signed cols (now (s .entry)))) ⌝ }
 {
-    if 0 < m && m < 4 {
-        commit_few(a, s, n, m, cols, out);
-    } else if cols < 4 && 64 <= m {
+    if cols < 4 && 512 <= m {
         commit_narrow(a, s, n, m, cols, out);
+    } else if 0 < m && (m < 4 || cols < 4) {
+        commit_rows(a, s, n, m, cols, out);
     } else {
         commit_wide(a, s, n, m, cols, out);
     }

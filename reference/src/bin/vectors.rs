@@ -1,10 +1,10 @@
 //! Prints small random cases as lines; the seed is the first argument, 1 where there is none.
 
 use reference::digits::digits;
-use reference::operations::{join, relation, verdict, Answer};
+use reference::operations::{join, relation, verdict, Answer, Profile};
 use reference::rng::Rng;
-use reference::settings::{refusal, Parameters};
-use reference::tree::{fold, honest_message, leaf, Node};
+use reference::settings::{refusal, shape, Parameters};
+use reference::tree::{fold, honest_message, leaf, Message, Node};
 
 /// The five numbers as text.
 fn five(p: &Parameters) -> String {
@@ -64,46 +64,76 @@ fn print_matrix<T: ToString>(name: &str, rows: usize, entries: &[T]) {
     println!("  {name} {rows}x{} = [{}]", entries.len() / rows, text.join(", "));
 }
 
-/// One whole fold with all its matrices, and two damaged messages.
-fn print_fold(rng: &mut Rng, p: &Parameters) -> Result<(), u32> {
-    let (n, m, t, columns) = (p.n as usize, p.m as usize, p.t as usize, p.columns() as usize);
-    let a: Vec<u64> = (0..n * m).map(|i| if i % 2 == 0 { rng.word() } else { rng.word() % 10 }).collect();
-    let left = leaf(p, &a, &rng.witness(m, t, p.bound))?;
-    let right = leaf(p, &a, &rng.witness(m, t, p.bound))?;
+/// What goes into a fold: A, the nodes, the message and the challenge.
+struct Inputs {
+    p: Parameters,
+    profile: Profile,
+    a: Vec<u64>,
+    left: Node,
+    right: Node,
+    sent: Message,
+    c: Vec<u8>,
+}
+
+/// Random inputs of an honest fold.
+fn inputs(rng: &mut Rng, p: &Parameters, profile: Profile) -> Result<Inputs, u32> {
+    let z = shape(p)?;
+    let a: Vec<u64> = (0..z.n * z.m).map(|i| if i % 2 == 0 { rng.word() } else { rng.word() % 10 }).collect();
+    let left = leaf(p, Profile::General, &a, &rng.witness(z.m, z.t, p.bound))?;
+    let right = leaf(p, profile, &a, &rng.witness(z.m, profile.right(&z), p.bound))?;
     // Drawn again until the folded witness has no zero entry, so that the case says something.
-    let mut c = rng.challenge(columns * t);
-    while fold(p, &a, &left, &right, &c)?.1.s.contains(&0) {
-        c = rng.challenge(columns * t);
+    let mut c = rng.challenge(z.columns * z.t);
+    while fold(p, profile, &a, &left, &right, &c)?.1.s.contains(&0) {
+        c = rng.challenge(z.columns * z.t);
     }
-    let sent = honest_message(p, &a, &left.s, &right.s)?;
-    let (mut joined_t, mut joined_d) = (vec![0; 2 * n * t], vec![0; 4 * t * t]);
-    join(p, &left.t, &left.d, &right.t, &right.d, &sent.v, &mut joined_t, &mut joined_d);
-    let (answer, folded) = fold(p, &a, &left, &right, &c)?;
-    println!("fold {} k={} N={} h={} H={}", five(p), p.k(), columns, p.h(), large(p.product_limit()));
+    let sent = honest_message(p, profile, &a, &left.s, &right.s)?;
+    Ok(Inputs { p: *p, profile, a, left, right, sent, c })
+}
+
+/// The matrices that go into a fold, and its message.
+fn print_inputs(x: &Inputs) {
+    let (p, sent) = (&x.p, &x.sent);
+    let (n, m, t, right) = (p.n as usize, p.m as usize, p.t as usize, x.right.s.len() / p.m as usize);
+    let form = if x.profile == Profile::Fresh { "fresh fold" } else { "fold" };
+    println!("{form} {} k={} N={} h={} H={}", five(p), p.k(), p.columns(), p.h(), large(p.product_limit()));
     print_matrix("powers", 1, &p.powers()[..p.k() as usize]);
-    print_matrix("A", n, &a);
-    print_matrix("S1", m, &left.s);
-    print_matrix("S2", m, &right.s);
-    print_matrix("C", columns, &c);
-    print_matrix("T1", n, &left.t);
-    print_matrix("D1", t, &left.d);
-    print_matrix("T2", n, &right.t);
-    print_matrix("D2", t, &right.d);
+    print_matrix("A", n, &x.a);
+    print_matrix("S1", m, &x.left.s);
+    print_matrix("S2", m, &x.right.s);
+    print_matrix("C", p.columns() as usize, &x.c);
+    print_matrix("T1", n, &x.left.t);
+    print_matrix("D1", t, &x.left.d);
+    print_matrix("T2", n, &x.right.t);
+    print_matrix("D2", right, &x.right.d);
     print_matrix("V", t, &sent.v);
     print_matrix("S~", m, &sent.ss);
     print_matrix("T~", n, &sent.tt);
-    print_matrix("D~", columns, &sent.dd);
+    print_matrix("D~", sent.ss.len() / m, &sent.dd);
+}
+
+/// The joined instance, the verdict and the folded node.
+fn print_outcome(x: &Inputs) -> Result<(), u32> {
+    let (p, left, right) = (&x.p, &x.left, &x.right);
+    let (n, m, t) = (p.n as usize, p.m as usize, p.t as usize);
+    let (mut joined_t, mut joined_d) = (vec![0; 2 * n * t], vec![0; 4 * t * t]);
+    join(p, x.profile, &left.t, &left.d, &right.t, &right.d, &x.sent.v, &mut joined_t, &mut joined_d);
     print_matrix("joined T", n, &joined_t);
     print_matrix("joined D", 2 * t, &joined_d);
+    let (answer, folded) = fold(p, x.profile, &x.a, left, right, &x.c)?;
     println!("  verdict = {}", answer.word());
     print_matrix("T'", n, &folded.t);
     print_matrix("D'", t, &folded.d);
     print_matrix("S'", m, &folded.s);
-    println!("  relation = {}", relation(p, &a, &folded.t, &folded.d, &folded.s).word());
+    println!("  relation = {}", relation(p, &x.a, &folded.t, &folded.d, &folded.s).word());
+    Ok(())
+}
+
+/// The verdicts on the message with an entry of T~ changed, one of D~, and both.
+fn print_damaged(x: &Inputs) {
+    let (left, right, sent) = (&x.left, &x.right, &x.sent);
     let judge = |tt: &[u64], dd: &[i64]| -> Answer {
-        let mut out = Node { t: vec![0; n * t], d: vec![0; t * t], s: Vec::new() };
-        let (one, two) = (&left, &right);
-        verdict(p, &one.t, &one.d, &two.t, &two.d, &sent.v, tt, dd, &c, &mut out.t, &mut out.d)
+        let (mut t, mut d) = (vec![0; left.t.len()], vec![0; left.d.len()]);
+        verdict(&x.p, x.profile, &left.t, &left.d, &right.t, &right.d, &sent.v, tt, dd, &x.c, &mut t, &mut d)
     };
     let (mut tt, mut dd) = (sent.tt.clone(), sent.dd.clone());
     tt[1] = tt[1].wrapping_add(1);
@@ -111,7 +141,29 @@ fn print_fold(rng: &mut Rng, p: &Parameters) -> Result<(), u32> {
     println!("  T~[1] now {}: verdict = {}", tt[1], judge(&tt, &sent.dd).word());
     println!("  D~[1] now {}: verdict = {}", dd[1], judge(&sent.tt, &dd).word());
     println!("  both: verdict = {}", judge(&tt, &dd).word());
+}
+
+/// One whole fold with all its matrices, and two damaged messages.
+fn print_fold(rng: &mut Rng, p: &Parameters, profile: Profile) -> Result<(), u32> {
+    let x = inputs(rng, p, profile)?;
+    print_inputs(&x);
+    print_outcome(&x)?;
+    print_damaged(&x);
     Ok(())
+}
+
+/// Whole folds at the smallest settings with some n, m, t and bases.
+fn print_folds(rng: &mut Rng) {
+    let general = [(2, 1, 1, 2..=2000), (1, 2, 1, 6..=6), (1, 1, 2, 2..=2000), (1, 2, 2, 2..=2000)];
+    let fresh = [(1, 1, 2, 2..=2000), (1, 2, 2, 2..=2000), (1, 1, 3, 2..=2000)];
+    let folds = general.map(|sizes| (Profile::General, sizes)).into_iter();
+    for (profile, (n, m, t, bases)) in folds.chain(fresh.map(|sizes| (Profile::Fresh, sizes))) {
+        if let Some(p) = smallest(n, m, t, bases) {
+            if let Err(number) = print_fold(rng, &p, profile) {
+                println!("fold {} refused {number}", five(&p));
+            }
+        }
+    }
 }
 
 /// Settings, digits and folds, in this order.
@@ -149,11 +201,5 @@ fn main() {
     println!("b=3 k=5 entry={}: {:?}", i64::MIN, digits(i64::MIN, 3, 5));
 
     println!("\nwhole folds, matrices by rows");
-    for (n, m, t, bases) in [(2, 1, 1, 2..=2000), (1, 2, 1, 6..=6), (1, 1, 2, 2..=2000), (1, 2, 2, 2..=2000)] {
-        if let Some(p) = smallest(n, m, t, bases) {
-            if let Err(number) = print_fold(&mut rng, &p) {
-                println!("fold {} refused {number}", five(&p));
-            }
-        }
-    }
+    print_folds(&mut rng);
 }

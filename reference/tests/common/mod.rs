@@ -51,15 +51,19 @@ pub fn random_challenge(rng: &mut Rng, p: &Parameters) -> Vec<u8> {
     }
 }
 
-/// A random tree with the given number of leaves, all within B.
+/// A random tree with the given number of leaves, all within B; of the leaves that are right children about half are
+/// fresh.
 pub fn random_tree(rng: &mut Rng, p: &Parameters, leaves: usize) -> Tree {
     if leaves <= 1 {
         return Tree::Leaf(rng.witness(p.m as usize, p.t as usize, p.bound));
     }
     let left = rng.between(1, leaves as i128 - 1) as usize;
-    let one = random_tree(rng, p, left);
-    let two = random_tree(rng, p, leaves - left);
-    Tree::Fold(Box::new(one), Box::new(two), random_challenge(rng, p))
+    let one = Box::new(random_tree(rng, p, left));
+    if leaves - left == 1 && rng.word().is_multiple_of(2) {
+        return Tree::FoldFresh(one, rng.witness(p.m as usize, 1, p.bound), random_challenge(rng, p));
+    }
+    let two = Box::new(random_tree(rng, p, leaves - left));
+    Tree::Fold(one, two, random_challenge(rng, p))
 }
 
 /// The whole number of a byte of C.

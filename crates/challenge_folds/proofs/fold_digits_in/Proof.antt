@@ -1,10 +1,11 @@
 -- `challenge_folds::fold_digits_in` meets its contract: the product is by the decoded challenge.
 use borrow.Author.Needs.{needs}
-use mathlib.Core.Path.{_∙_}
 use mathlib.Core.List.{List}
+use Prim.Native.Nat.{_+_}
 use native.Mathlib.Omega.{arith}
 use lib.IntN.{ℤ}
-use Rattle.matrices.specs.Tables.{signed}
+use Rattle.matrices.specs.Matrices.{contracted}
+use Rattle.matrices.specs.Tables.{signed, challenge}
 use Rattle.challenge_folds.proofs.Folds.{product-same}
 use Rattle.challenge_folds.proofs.fold_digits_in.Statement.{statement}
 use Rattle.challenge_folds.proofs.fold_digits_in.Tie as tie
@@ -14,7 +15,10 @@ abbrev start : tie.After-decode → tie.Start
 start d = d .before .before .before
 
 abbrev decoded : tie.After-decode → List ℤ
-decoded d = d .decode .last .1 .1 .1 .0
+decoded d = d .decode .last .1 .1 .1 .1 .1 .0
+
+add-rows : tie.Need-add-rows
+add-rows c = search needs
 
 decode-requires : tie.Need-decode-requires
 decode-requires c κs = search needs
@@ -23,7 +27,7 @@ small-fold-requires : tie.Need-small-fold-requires
 small-fold-requires c κs =
     let d = c .before .before .before in
     let h = start d .pre in
-    (h .0, (λ i. omega (arith, d .decode .ensures .1 i)), omega (arith, h .3, d .decode .kept .1 .1 .1 .0), h .2)
+    (h .0, d .decode .ensures .1, omega (arith, h .5, d .decode .kept .1 .1 .1 .1 .1 .0), h .4)
 
 same-length : tie.Need-same-length
 same-length c = search needs
@@ -35,9 +39,10 @@ returns : tie.Need-returns
 returns c =
     let d = c .before .before .before .before .before in
     let a = start d .args in
-    c .before .small-fold .ensures
-    ∙ product-same (a .rows) (a .t) (decoded d) (a .c .now) (d .decode .ensures .0) (a .m) (signed (a .rows) (a .ss .now))
+    let rows = a .left + a .block in
+    product-same rows (a .t) (decoded d) (contracted (a .left) (a .block) (a .copies) (challenge (a .t) (a .c .now))) (d .decode .ensures .0)
+    (a .m) (signed rows (a .ss .now)) _ (c .before .small-fold .ensures)
 
 pub fold-digits-in-spec : {M : Type 1} → statement M
 fold-digits-in-spec =
-    tie.close (tie.spec decode-requires small-fold-requires same-length same-length-2 returns)
+    tie.close (tie.spec add-rows decode-requires small-fold-requires same-length same-length-2 returns)

@@ -1,10 +1,11 @@
 -- `challenge_folds::fold_instance_in` meets its contract: both products are by the decoded challenge.
 use borrow.Author.Needs.{needs}
-use mathlib.Core.Path.{_∙_}
 use mathlib.Core.List.{List}
+use Prim.Native.Nat.{_+_}
 use native.Mathlib.Omega.{arith}
 use lib.IntN.{ℤ}
-use Rattle.matrices.specs.Tables.{signed, unsigned}
+use Rattle.matrices.specs.Matrices.{contracted}
+use Rattle.matrices.specs.Tables.{signed, unsigned, challenge}
 use Rattle.challenge_folds.proofs.Folds.{words-same, gram-same}
 use Rattle.challenge_folds.proofs.fold_instance_in.Statement.{statement}
 use Rattle.challenge_folds.proofs.fold_instance_in.Tie as tie
@@ -14,7 +15,7 @@ abbrev start : tie.After-decode → tie.Start
 start d = d .before .before .before .before .before
 
 abbrev decoded : tie.After-decode → List ℤ
-decoded d = d .decode .last .1 .1 .1 .0
+decoded d = d .decode .last .1 .1 .1 .1 .1 .0
 
 -- T' is written, and before that the challenge was decoded
 abbrev written : tie.After-fold-gram-arg2 → tie.After-fold-commitment
@@ -22,6 +23,9 @@ written c = c .before .before .before .before
 
 abbrev at-decode : tie.After-fold-commitment → tie.After-decode
 at-decode w = w .before .before .before .before
+
+add-rows : tie.Need-add-rows
+add-rows c = search needs
 
 decode-requires : tie.Need-decode-requires
 decode-requires c κs = search needs
@@ -33,7 +37,7 @@ fold-gram-requires : tie.Need-fold-gram-requires
 fold-gram-requires c κs =
     let d = at-decode (written c) in
     let h = start d .pre in
-    (h .1, h .2, h .3, (λ i. omega (arith, d .decode .ensures .1 i)), omega (arith, h .7, d .decode .kept .1 .1 .1 .0), h .6)
+    (h .1, h .2, h .3, d .decode .ensures .1, omega (arith, h .9, d .decode .kept .1 .1 .1 .1 .1 .0), h .8)
 
 same-length : tie.Need-same-length
 same-length c = search needs
@@ -49,17 +53,18 @@ returns c =
     let w = written (c .before .before) in
     let d = at-decode w in
     let a = start d .args in
+    let rows = a .left + a .block in
+    let «C» = contracted (a .left) (a .block) (a .copies) (challenge (a .cols) (a .c .now)) in
     let same = d .decode .ensures .0 in (
-      w .fold-commitment .ensures
-          ∙ words-same (a .rows) (a .cols) (decoded d) (a .c .now) same (a .n) (unsigned (a .rows) (a .tt .now)),
-      c .before .fold-gram .ensures
-          ∙ gram-same (a .rows) (a .cols) (decoded d) (a .c .now) same (signed (a .rows) (a .dd .now)),
+      words-same rows (a .cols) (decoded d) «C» same (a .n) (unsigned rows (a .tt .now)) _ (w .fold-commitment .ensures),
+      gram-same rows (a .cols) (decoded d) «C» same (signed rows (a .dd .now)) _ (c .before .fold-gram .ensures),
     )
 
 pub fold-instance-in-spec : {M : Type 1} → statement M
 fold-instance-in-spec =
     tie.close
     (tie.spec
+    add-rows
     decode-requires
     fold-commitment-requires
     fold-gram-requires

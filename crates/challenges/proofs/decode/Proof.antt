@@ -1,29 +1,32 @@
 -- `challenges::decode` meets its contract: the first j columns of the challenge stand in q.
 use borrow.Author.Needs.{needs}
 use mathlib.Core.Path.{_≡_, refl, _∙_}
-use Prim.Native.Nat.{_+_, _-_, _*_, _≤_}
+use Prim.Native.Nat.{ℕ, _+_, _-_, _*_, _≤_}
 use native.Mathlib.Omega.{arith}
+use lib.IntN.{natAbs}
 use lib.ListN.{length, length-take, length-drop}
-use Rattle.matrices.specs.Matrices.{Agree}
+use Rattle.matrices.specs.Matrices.{contracted, Agree}
 use Rattle.matrices.specs.Tables.{challenge}
 use Rattle.small_rows.specs.Small.{Within}
 use Rattle.small_rows.specs.Columns.{byColumns}
 use Rattle.challenges.proofs.Columns.{column-more}
+use Rattle.challenges.proofs.Sums.{sums-size}
 use Rattle.challenges.proofs.decode.Statement.{statement}
 use Rattle.challenges.proofs.decode.Tie as tie
 
 abbrev Inv-loop : tie.InvT-loop
-Inv-loop c rows t q₀ j₀ q j = (j ≤ t) × (length q ≡ length q₀) × Agree rows j (byColumns q) (challenge t c) × Within 1 q
+Inv-loop c left block copies t q₀ j₀ q j =
+    (j ≤ t) × (length q ≡ length q₀) × Agree (left + block) j (byColumns q) (contracted left block copies (challenge t c)) × Within 16 q
 
 abbrev μ-loop : tie.MeasureT-loop
-μ-loop c rows t q₀ j₀ q j = t - j
+μ-loop c left block copies t q₀ j₀ q j = t - j
 
 loop-holds : tie.Need-loop-holds Inv-loop μ-loop
-loop-holds c = (omega arith, refl, λ i j hi hj. absurd (omega arith), c .before .pre .3)
+loop-holds c = (omega arith, refl, λ i j hi hj. absurd (omega arith), c .before .pre .5)
 
 -- column j lies within q
 room : (c : tie.In-loop Inv-loop μ-loop) → c .before .loop .j * 512 + 512 ≤ length (c .before .loop .q)
-room c = omega (arith, c .loop-test .taken, c .before .before .before .pre .2, c .before .loop .inv .1)
+room c = omega (arith, c .loop-test .taken, c .before .before .before .pre .4, c .before .loop .inv .1)
 
 mul-start : tie.Need-mul-start Inv-loop μ-loop
 mul-start c = search needs
@@ -31,23 +34,26 @@ mul-start c = search needs
 add-end : tie.Need-add-end Inv-loop μ-loop
 add-end c = search needs
 
-mul-decode-column : tie.Need-mul-decode-column Inv-loop μ-loop
-mul-decode-column c = search needs
+add-end-2 : tie.Need-add-end-2 Inv-loop μ-loop
+add-end-2 c = search needs
 
-sub-decode-column : tie.Need-sub-decode-column Inv-loop μ-loop
-sub-decode-column c = search needs
+mul-decode-sums : tie.Need-mul-decode-sums Inv-loop μ-loop
+mul-decode-sums c = search needs
 
-part-decode-column-start : tie.Need-part-decode-column-start Inv-loop μ-loop
-part-decode-column-start c = search needs
+sub-decode-sums : tie.Need-sub-decode-sums Inv-loop μ-loop
+sub-decode-sums c = search needs
 
-part-decode-column-end : tie.Need-part-decode-column-end Inv-loop μ-loop
-part-decode-column-end c = search needs
+part-decode-sums-start : tie.Need-part-decode-sums-start Inv-loop μ-loop
+part-decode-sums-start c = search needs
 
-decode-column-requires : tie.Need-decode-column-requires Inv-loop μ-loop
-decode-column-requires c κs =
+part-decode-sums-end : tie.Need-part-decode-sums-end Inv-loop μ-loop
+part-decode-sums-end c = search needs
+
+decode-sums-requires : tie.Need-decode-sums-requires Inv-loop μ-loop
+decode-sums-requires c κs =
     let l = c .before .before in
     let s = l .before .before in
-    (s .pre .0, c .before .loop-test .taken, simp (length-take, length-drop) (omega (arith, room (c .before))))
+    (s .pre .0, s .pre .1, s .pre .2, c .before .loop-test .taken, simp (length-take, length-drop) (omega (arith, room (c .before))))
 
 add-j : tie.Need-add-j Inv-loop μ-loop
 add-j c = search needs
@@ -60,7 +66,10 @@ loop-again c =
     let l = c .before .before .before .before in
     let s = l .before .before in
     let a = s .args in
-    let m = column-more (a .rows) (a .t) (l .loop .j) (a .c .now) (l .loop .q) _ (s .pre .1) (room (c .before .before .before)) (c .before .decode-column .ensures) (l .loop .inv .2) (l .loop .inv .3) in
+    let j = l .loop .j in
+    let «C» = contracted (a .left) (a .block) (a .copies) (challenge (a .t) (a .c .now)) in
+    let small : (k : ℕ) → natAbs («C» k j) ≤ 16 = λ k. omega (arith, s .pre .2, sums-size (a .left) (a .block) (a .t) j (a .c .now) (a .copies) k (s .pre .1)) in
+    let m = column-more (a .left + a .block) j «C» (l .loop .q) _ (s .pre .3) (room (c .before .before .before)) (c .before .decode-sums .ensures) small (l .loop .inv .2) (l .loop .inv .3) in
     (omega (arith, c .before .before .before .loop-test .taken), m .0 ∙ l .loop .inv .1, m .1, m .2)
 
 same-length : tie.Need-same-length Inv-loop μ-loop
@@ -81,11 +90,12 @@ decode-spec =
     loop-holds
     mul-start
     add-end
-    mul-decode-column
-    sub-decode-column
-    part-decode-column-start
-    part-decode-column-end
-    decode-column-requires
+    add-end-2
+    mul-decode-sums
+    sub-decode-sums
+    part-decode-sums-start
+    part-decode-sums-end
+    decode-sums-requires
     add-j
     loop-less
     loop-again

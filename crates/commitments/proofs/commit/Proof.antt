@@ -9,7 +9,7 @@ use Rattle.settings.specs.Settings.{Parameters, parametersOf}
 use Rattle.lova.specs.Answers.{done, answerOf, Outcome, ends}
 use Rattle.lova.specs.Stored.{Instance}
 use Rattle.lova.specs.Calls.{ProperCommit, Rebuilt}
-use Rattle.lova.specs.Commit.{commitRules, instanceOf, commit}
+use Rattle.lova.specs.Commit.{commitRules, instanceIn, commitIn}
 use Rattle.lova.proofs.Refusals.{commit-proper}
 use Rattle.lova.proofs.NeverWraps.{columns-fit}
 use Rattle.lova.proofs.Rebuilding.{rebuilt, rebuilt-accepted}
@@ -23,10 +23,10 @@ module _ (s : tie.Start) where
   out = record { T = s .args .t .now; D = s .args .d .now }
 
   abbrev rules : Parameters → List Rule
-  rules p = commitRules p (s .args .a .now) (s .args .s .now) out
+  rules p = commitRules p (s .args .profile) (s .args .a .now) (s .args .s .now) out
 
   abbrev result : Parameters → Outcome Instance
-  result p = ends done (instanceOf p (s .args .a .now) (s .args .s .now))
+  result p = ends done (instanceIn p (s .args .profile) (s .args .a .now) (s .args .s .now))
 
 -- the entry, and the setting that was built anew
 abbrev start : tie.After-rebuilt → tie.Start
@@ -42,7 +42,7 @@ rebuilt-requires : tie.Need-rebuilt-requires
 rebuilt-requires c κs = search needs
 
 returns : tie.Need-returns
-unfolding commit answerOf
+unfolding commitIn answerOf
 returns c =
     let n = c .before in
     let s = start n in
@@ -62,7 +62,7 @@ same-length-2 : tie.Need-same-length-2
 same-length-2 c = search needs
 
 returns-2 : tie.Need-returns-2
-unfolding commit answerOf
+unfolding commitIn answerOf
 returns-2 c =
     let w = c .before in
     let e = w .before .before .before .before in
@@ -74,24 +74,31 @@ returns-2 c =
 proper : (c : tie.Else2) →
     let n = else-1 c .before in
     let s = start n in
-    ProperCommit (anew n) (s .args .a .now) (s .args .s .now) (out s)
+    ProperCommit (anew n) (s .args .profile) (s .args .a .now) (s .args .s .now) (out s)
 proper c =
     let n = else-1 c .before in
     let s = start n in
-    commit-proper (anew n) (s .args .a .now) (s .args .s .now) (out s) .0
+    commit-proper (anew n) (s .args .profile) (s .args .a .now) (s .args .s .now) (out s) .0
     (none-applied (rules s) (out s) (result s) (parametersOf (s .args .setting)) (n .rebuilt .result) (n .rebuilt .ensures) (else-1 c .if1 .left) (c .before .commit-refusal .result) (c .before .commit-refusal .ensures) (c .if2 .left))
 
+right-requires : tie.Need-right-requires
+right-requires c κs = search needs
+
 commitment-requires : tie.Need-commitment-requires
-commitment-requires c κs = let l = proper (c .before) .lengths in (l .0, l .1, l .2 .0)
+commitment-requires c κs =
+    let r = c .before in
+    let l = proper (r .before) .lengths in
+    rw (r .right .ensures) (l .0, l .1, l .2 .0)
 
 cross-products-requires : tie.Need-cross-products-requires
 cross-products-requires c κs =
-    let e = c .before .before .before .before .before in
+    let r = c .before .before .before .before .before in
+    let e = r .before in
     let n = else-1 e .before in
     let s = start n in
     let l = proper e .lengths in
     let columns = proper e .columns in
-    ((l .1, l .1, l .2 .1), columns-fit (anew n) (rebuilt-accepted (n .rebuilt .result .setting) (again (else-1 e))) (s .args .s .now) (s .args .s .now) columns columns)
+    rw (r .right .ensures) ((l .1, l .1, l .2 .1), columns-fit (anew n) (rebuilt-accepted (n .rebuilt .result .setting) (again (else-1 e))) (s .args .profile) (s .args .profile) (s .args .s .now) (s .args .s .now) columns columns)
 
 same-length-3 : tie.Need-same-length-3
 same-length-3 c = search needs
@@ -100,12 +107,14 @@ same-length-4 : tie.Need-same-length-4
 same-length-4 c = search needs
 
 returns-3 : tie.Need-returns-3
-unfolding commit answerOf instanceOf
+unfolding commitIn answerOf instanceIn
 returns-3 c =
-    let e = c .before .before .before .before .before .before .before in
+    let r = c .before .before .before .before .before .before .before in
+    let e = r .before in
     let n = else-1 e .before in
     let s = start n in
-    ap₂ (λ (t : List ℕ) (d : List ℤ). ends done (record { T = t; D = d })) (c .before .before .before .before .before .commitment .ensures) (c .before .cross-products .ensures)
+    let columns = r .right .ensures in
+    ap₂ (λ (t : List ℕ) (d : List ℤ). ends done (record { T = t; D = d })) (rw columns at (c .before .before .before .before .before .commitment .ensures)) (rw columns at (c .before .cross-products .ensures))
     ∙ out-at-end (rules s) (out s) (result s) (parametersOf (s .args .setting)) (n .rebuilt .result) (n .rebuilt .ensures) (else-1 e .if1 .left) (e .before .commit-refusal .result) (e .before .commit-refusal .ensures) (e .if2 .left)
 
 pub commit-spec : {M : Type 1} → statement M
@@ -118,6 +127,7 @@ commit-spec =
     same-length
     same-length-2
     returns-2
+    right-requires
     commitment-requires
     cross-products-requires
     same-length-3

@@ -1,5 +1,5 @@
 -- `equations::block_equals` meets its contract: the block sums up to its entry of G-transposed D~ G.
-use mathlib.Core.Path.{_∙_, ap, ap₂}
+use mathlib.Core.Path.{_∙_, ap₂}
 use Prim.Native.Nat.{ℕ}
 use Rattle.matrices.specs.Tables.{signed}
 use Rattle.lova.specs.Fold.{blocks}
@@ -15,25 +15,25 @@ weighted-block-requires c κs =
     let h = c .before .pre .0 in
     let hi = c .before .pre .1 .0 in
     let hj = c .before .pre .1 .1 in (
-      (rw (h .2) (rows-below (h .1) (a .i) hi), block-below (h .1) (a .j) hj, powers-long (h .1), power-fits (h .1)),
-      (block-fits (h .1) (a .dd .now) (a .i) (a .j) hi hj (h .3), rows-fit (h .1) (a .dd .now) (a .i) (a .j) hi hj (h .3)),
+      (rw (h .3) (rows-below (h .2) (a .i) hi), block-below (h .2) (a .j) hj, powers-long (h .2), power-fits (h .2)),
+      (block-fits (h .2) (a .dd .now) (a .i) (a .j) hi hj (h .4), rows-fit (h .2) (a .dd .now) (a .i) (a .j) hi hj (h .4)),
     )
 
 joined-d-requires : tie.Need-joined-d-requires
 joined-d-requires c κs =
     let s = c .before .before in
     let h = s .pre .0 in
-    rw (h .1 .t-is) (h .4, h .5, h .6, rw (← h .1 .t-is) (s .pre .1 .0), rw (← h .1 .t-is) (s .pre .1 .1))
+    (rw (h .2 .t-is) (h .5), rw (h .2 .right-is, h .2 .t-is) (h .6), rw (h .2 .right-is) (h .7), s .pre .1 .0, s .pre .1 .1)
 
 returns : tie.Need-returns
-returns c p h =
+returns c p f h =
     let s = c .before .before .before in
     let a = s .args in
     let x = c .before .weighted-block in
     let y = c .joined-d in
     bits-test (x .result) (y .result) (record { sfits = x .ok }) (record { sfits = y .ok })
     ∙ ap₂ eqZ (x .ensures ∙ by-rows h (a .dd .now) (a .i) (a .j) (s .pre .1 .0) (s .pre .1 .1))
-    (y .ensures ∙ ap (λ (t : ℕ). blocks t (signed t (a .d1 .now)) (signed t (a .v .now)) (signed t (a .d2 .now)) (a .i) (a .j)) (h .t-is))
+    (y .ensures ∙ ap₂ (λ (t r : ℕ). blocks t (signed t (a .d1 .now)) (signed r (a .v .now)) (signed r (a .d2 .now)) (a .i) (a .j)) (h .t-is) (h .right-is))
 
 pub block-equals-spec : {M : Type 1} → statement M
 block-equals-spec = tie.close (tie.spec weighted-block-requires joined-d-requires returns)

@@ -1,71 +1,93 @@
 -- `equations::commitment_holds` meets its contract: the entries before (i, j) are equal.
 use borrow.Author.Needs.{needs}
-use mathlib.Core.Path.{_≡_, refl, _∙_}
+use mathlib.Core.Path.{_≡_, refl, sym, _∙_, ap}
 use mathlib.Core.Bool.{true}
 use mathlib.Core.List.{List}
-use Prim.Native.Nat.{ℕ, _-_, _*_, _≤_}
+use Prim.Native.Nat.{ℕ, _+_, _-_, _*_, _≤_}
 use native.Mathlib.Omega.{arith}
 use lib.Dec.{eqb}
 use Rattle.integers.specs.Residues.{word}
 use Rattle.matrices.specs.Matrices.{product}
-use Rattle.matrices.specs.Tables.{unsigned}
-use Rattle.settings.specs.declared.Setting.{Setting}
-use Rattle.settings.specs.Settings.{parametersOf, NOf}
+use Rattle.settings.specs.Settings.{Parameters, parametersOf}
+use Rattle.lova.specs.declared.Profile.{Profile}
+use Rattle.lova.specs.Stored.{columnsOf, matrixT, rightT, sentT~}
 use Rattle.lova.specs.Fold.{beside, gadget}
+use Rattle.lova.specs.Tests.{every}
 use Rattle.lova.proofs.Tests.{eqb-iff}
 use Rattle.lova.proofs.Comparisons.{EqualBefore, equal-none, equal-row, equal-all}
 use Rattle.lova.proofs.Rebuilding.{rebuilt-accepted}
+use Rattle.lova.proofs.Widths.{right-high, wide-high}
+use Rattle.equations.specs.Blocks.{Handed}
 use Rattle.equations.proofs.Compared.{goes-on, stops}
 use Rattle.equations.proofs.Recomposed.{handed}
 use Rattle.equations.proofs.commitment_holds.Statement.{statement}
 use Rattle.equations.proofs.commitment_holds.Tie as tie
 
 -- T~ G and the joined T, modulo 2^64
-abbrev recomposed : Setting → List ℕ → ℕ → ℕ → ℕ
-recomposed s tt i j = word (product (NOf (parametersOf s)) (unsigned (NOf (parametersOf s)) tt) (gadget (parametersOf s)) i j)
+abbrev recomposed : Parameters → Profile → List ℕ → ℕ → ℕ → ℕ
+recomposed p f tt i j = word (product (columnsOf p f) (sentT~ p f .read tt) (gadget p) i j)
 
-abbrev joined : Setting → List ℕ → List ℕ → ℕ → ℕ → ℕ
-joined s t1 t2 i j = word (beside (s .t) (unsigned (s .t) t1) (unsigned (s .t) t2) i j)
+abbrev joined : Parameters → Profile → List ℕ → List ℕ → ℕ → ℕ → ℕ
+joined p f t1 t2 i j = word (beside (p .t) (matrixT p .read t1) (rightT p f .read t2) i j)
+
+-- their entries before (i, j) are equal, in the setting and the profile that the numbers are of
+abbrev Equal : List ℕ → List ℕ → List ℕ → List ℕ → ℕ → ℕ → ℕ → ℕ → ℕ → ℕ → Type 0
+Equal t1 t2 tt powers k t right columns i j =
+    (p : Parameters) (f : Profile) → Handed p f t right k columns powers → EqualBefore (t + right) (recomposed p f tt) (joined p f t1 t2) i j
 
 abbrev Inv-loop : tie.InvT-loop
-Inv-loop setting t1 t2 tt powers n t wide congruent₀ i j₀ congruent j = (congruent ≡ true) × EqualBefore wide (recomposed setting tt) (joined setting t1 t2) i j
+Inv-loop t1 t2 tt powers n k t right wide columns congruent₀ i j₀ congruent j = (congruent ≡ true) × Equal t1 t2 tt powers k t right columns i j
 
 abbrev μ-loop : tie.MeasureT-loop
-μ-loop setting t1 t2 tt powers n t wide congruent₀ i j₀ congruent j = wide - j
+μ-loop t1 t2 tt powers n k t right wide columns congruent₀ i j₀ congruent j = wide - j
 
 abbrev Inv-rows : tie.InvT-rows
-Inv-rows setting t1 t2 tt powers n t wide congruent₀ i₀ congruent i = (congruent ≡ true) × EqualBefore wide (recomposed setting tt) (joined setting t1 t2) i 0
+Inv-rows t1 t2 tt powers n k t right wide columns congruent₀ i₀ congruent i = (congruent ≡ true) × Equal t1 t2 tt powers k t right columns i 0
 
 abbrev μ-rows : tie.MeasureT-rows
-μ-rows setting t1 t2 tt powers n t wide congruent₀ i₀ congruent i = n - i
+μ-rows t1 t2 tt powers n k t right wide columns congruent₀ i₀ congruent i = n - i
 
--- what is compared, by the function's arguments
-module _ (s : tie.Start Inv-loop μ-loop Inv-rows μ-rows) where
+-- what follows from the profile
+module _ (c : tie.After-right Inv-loop μ-loop Inv-rows μ-rows) where
+  abbrev start : tie.Start Inv-loop μ-loop Inv-rows μ-rows
+  start = c .before .before .before .before .before
+
   abbrev across : ℕ
-  across = 2 * s .args .setting .t
+  across = start .args .setting .t + c .right .result
+
+  given : let s = start .args .setting in Handed (parametersOf s) (start .args .profile) (s .t) (c .right .result) (s .k) (across * s .k) (s .powers)
+  given = handed (start .pre .0) (c .right .ensures)
+
+  -- the matrices that are compared have at most 32 columns, and T~ has at most 512
+  narrow : across ≤ 32
+  narrow =
+      let acc = rebuilt-accepted (start .args .setting) (start .pre .0) in
+      omega (arith, c .right .ensures, right-high (start .args .setting .t) (start .args .profile) (acc .t-low), acc .t-high)
+
+  few : across * start .args .setting .k ≤ 512
+  few = rw (given .wide-is) (wide-high (start .args .setting) (start .pre .0) (start .args .profile))
 
   abbrev X : ℕ → ℕ → ℕ
-  X = recomposed (s .args .setting) (s .args .tt .now)
+  X = recomposed (parametersOf (start .args .setting)) (start .args .profile) (start .args .tt .now)
 
   abbrev Y : ℕ → ℕ → ℕ
-  Y = joined (s .args .setting) (s .args .t1 .now) (s .args .t2 .now)
+  Y = joined (parametersOf (start .args .setting)) (start .args .profile) (start .args .t1 .now) (start .args .t2 .now)
 
-  -- the joined matrices have at most 32 columns
-  narrow : across ≤ 32
-  narrow = omega (arith, rebuilt-accepted (s .args .setting) (s .pre .0) .t-high)
+-- the numbers, from the inner loop
+abbrev from-loop : tie.At-loop Inv-loop μ-loop Inv-rows μ-rows → tie.After-right Inv-loop μ-loop Inv-rows μ-rows
+from-loop l = l .before .before .before
 
--- the entry, from either loop
-abbrev from-rows : tie.At-rows Inv-loop μ-loop Inv-rows μ-rows → tie.Start Inv-loop μ-loop Inv-rows μ-rows
-from-rows r = r .before .before .before .before .before
+right-requires : tie.Need-right-requires Inv-loop μ-loop Inv-rows μ-rows
+right-requires c κs = search needs
 
-abbrev from-loop : tie.At-loop Inv-loop μ-loop Inv-rows μ-rows → tie.Start Inv-loop μ-loop Inv-rows μ-rows
-from-loop l = from-rows (l .before .before)
+add-wide : tie.Need-add-wide Inv-loop μ-loop Inv-rows μ-rows
+add-wide c = omega (arith, narrow c)
 
-mul-wide : tie.Need-mul-wide Inv-loop μ-loop Inv-rows μ-rows
-mul-wide c = omega (arith, narrow (c .before .before .before .before))
+mul-columns : tie.Need-mul-columns Inv-loop μ-loop Inv-rows μ-rows
+mul-columns c = omega (arith, few c)
 
 rows-holds : tie.Need-rows-holds Inv-loop μ-loop Inv-rows μ-rows
-rows-holds c = (refl, equal-none _ _ _)
+rows-holds c = (refl, λ p f h. equal-none _ _ _)
 
 loop-holds : tie.Need-loop-holds Inv-loop μ-loop Inv-rows μ-rows
 loop-holds c = c .before .rows .inv
@@ -76,15 +98,9 @@ slice-aggregate-words-equal c = search needs
 words-equal-requires : tie.Need-words-equal-requires Inv-loop μ-loop Inv-rows μ-rows
 words-equal-requires c κs =
     let l = c .before .before in
-    let h = from-loop l .pre in
-    ((_, handed (h .0), h .3), (h .1, h .2, l .before .rows-test .taken, c .before .loop-test .taken))
-
--- what is answered of an entry
-told : (c : tie.After-words-equal Inv-loop μ-loop Inv-rows μ-rows) →
-    let l = c .before .before .before in
-    let s = from-loop l in
-    c .words-equal .result ≡ eqb (X s (l .before .before .rows .i) (l .loop .j)) (Y s (l .before .before .rows .i) (l .loop .j))
-told c = c .words-equal .ensures _ (handed (from-loop (c .before .before .before) .pre .0))
+    let r = from-loop l in
+    let h = start r .pre in
+    ((_, _, given r, h .3), (h .1, h .2 ∙ ap (λ (n : ℕ). start r .args .setting .n * n) (sym (r .right .ensures)), l .before .rows-test .taken, c .before .loop-test .taken))
 
 add-j : tie.Need-add-j Inv-loop μ-loop Inv-rows μ-rows
 add-j c = omega (arith, narrow (from-loop (c .before .before .before .before)))
@@ -94,9 +110,10 @@ loop-less c = search needs
 
 loop-again : tie.Need-loop-again Inv-loop μ-loop Inv-rows μ-rows
 loop-again c =
-    let l = c .before .before .before .before in
-    let s = from-loop l in
-    (l .loop .inv .0, goes-on (across s) (X s) (Y s) eqb eqb-iff (l .before .before .rows .i) (l .loop .j) _ (told (c .before)) (c .if1 .left) (l .loop .inv .1))
+    let l = c .before .before .before .before in (
+      l .loop .inv .0,
+      λ p f h. goes-on (across (from-loop l)) _ _ eqb eqb-iff (l .before .before .rows .i) (l .loop .j) _ (c .before .words-equal .ensures p f h) (c .if1 .left) (l .loop .inv .1 p f h),
+    )
 
 add-i : tie.Need-add-i Inv-loop μ-loop Inv-rows μ-rows
 add-i c = search needs
@@ -107,20 +124,24 @@ rows-less c = search needs
 rows-again : tie.Need-rows-again Inv-loop μ-loop Inv-rows μ-rows
 rows-again c =
     let l = c .before in
-    let s = from-loop l in
-    (l .loop .inv .0, equal-row (across s) (X s) (Y s) (l .before .before .rows .i) (l .loop .j) (omega arith) (l .loop .inv .1))
+    (l .loop .inv .0, λ p f h. equal-row (across (from-loop l)) _ _ (l .before .before .rows .i) (l .loop .j) (omega arith) (l .loop .inv .1 p f h))
 
 returns : tie.Need-returns Inv-loop μ-loop Inv-rows μ-rows
 returns c =
-    let r = c .before in
-    let s = from-rows r in
-    r .rows .inv .0 ∙ equal-all (across s) (X s) (Y s) eqb eqb-iff (s .args .setting .n) (r .rows .i) (omega arith) (r .rows .inv .1)
+    let r = c .before .before in
+    let s = start r .args .setting in
+    let i = c .before .rows in
+    i .inv .0
+    ∙ equal-all (across r) (X r) (Y r) eqb eqb-iff (s .n) (i .i) (omega arith) (i .inv .1 _ _ (given r))
+    ∙ ap (λ (m : ℕ). every (s .n) (s .t + m) (λ i j. eqb (X r i j) (Y r i j))) (r .right .ensures)
 
 returns-2 : tie.Need-returns-2 Inv-loop μ-loop Inv-rows μ-rows
 returns-2 c =
     let l = c .before .before .before .before in
-    let s = from-loop l in
-    stops (across s) (X s) (Y s) eqb eqb-iff (l .before .before .rows .i) (l .loop .j) _ (told (c .before)) (s .args .setting .n) (l .before .rows-test .taken) (c .before .before .before .loop-test .taken) (c .if1 .taken)
+    let r = from-loop l in
+    let s = start r .args .setting in
+    stops (across r) (X r) (Y r) eqb eqb-iff (l .before .before .rows .i) (l .loop .j) _ (c .before .words-equal .ensures _ _ (given r)) (s .n) (l .before .rows-test .taken) (c .before .before .before .loop-test .taken) (c .if1 .taken)
+    ∙ ap (λ (m : ℕ). every (s .n) (s .t + m) (λ i j. eqb (X r i j) (Y r i j))) (r .right .ensures)
 
 pub commitment-holds-spec : {M : Type 1} → statement M
 commitment-holds-spec =
@@ -130,7 +151,9 @@ commitment-holds-spec =
     μ-loop
     Inv-rows
     μ-rows
-    mul-wide
+    right-requires
+    add-wide
+    mul-columns
     rows-holds
     loop-holds
     slice-aggregate-words-equal

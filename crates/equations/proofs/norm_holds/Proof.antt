@@ -1,71 +1,92 @@
 -- `equations::norm_holds` meets its contract: the entries before (i, j) are equal.
 use borrow.Author.Needs.{needs}
-use mathlib.Core.Path.{_≡_, refl, _∙_}
+use mathlib.Core.Path.{_≡_, refl, _∙_, ap}
 use mathlib.Core.Bool.{true}
 use mathlib.Core.List.{List}
-use Prim.Native.Nat.{ℕ, _-_, _*_, _≤_}
+use Prim.Native.Nat.{ℕ, _+_, _-_, _*_, _≤_}
 use native.Mathlib.Omega.{arith}
 use lib.IntN.{ℤ}
 use Rattle.matrices.specs.Matrices.{Matrix, bothSides}
-use Rattle.matrices.specs.Tables.{signed}
-use Rattle.settings.specs.declared.Setting.{Setting}
-use Rattle.settings.specs.Settings.{parametersOf, NOf}
+use Rattle.settings.specs.Settings.{Parameters, parametersOf}
+use Rattle.lova.specs.declared.Profile.{Profile}
+use Rattle.lova.specs.Stored.{columnsOf, matrixD, rightD, sentV, sentD~}
 use Rattle.lova.specs.Fold.{blocks, gadget}
-use Rattle.lova.specs.Tests.{eqZ}
+use Rattle.lova.specs.Tests.{eqZ, equal}
 use Rattle.lova.proofs.Tests.{eqZ-iff}
 use Rattle.lova.proofs.Comparisons.{EqualBefore, equal-none, equal-row, equal-all}
 use Rattle.lova.proofs.Rebuilding.{rebuilt-accepted}
+use Rattle.lova.proofs.Widths.{right-high, wide-high}
+use Rattle.equations.specs.Blocks.{Handed}
 use Rattle.equations.proofs.Compared.{goes-on, stops}
 use Rattle.equations.proofs.Recomposed.{handed}
 use Rattle.equations.proofs.norm_holds.Statement.{statement}
 use Rattle.equations.proofs.norm_holds.Tie as tie
 
 -- G-transposed D~ G, and the joined D
-abbrev recomposed : Setting → List ℤ → Matrix
-recomposed s dd = bothSides (NOf (parametersOf s)) (gadget (parametersOf s)) (signed (NOf (parametersOf s)) dd)
+abbrev recomposed : Parameters → Profile → List ℤ → Matrix
+recomposed p f dd = bothSides (columnsOf p f) (gadget p) (sentD~ p f .read dd)
 
-abbrev joined : Setting → List ℤ → List ℤ → List ℤ → Matrix
-joined s d1 v d2 = blocks (s .t) (signed (s .t) d1) (signed (s .t) v) (signed (s .t) d2)
+abbrev joined : Parameters → Profile → List ℤ → List ℤ → List ℤ → Matrix
+joined p f d1 v d2 = blocks (p .t) (matrixD p .read d1) (sentV p f .read v) (rightD p f .read d2)
+
+-- their entries before (i, j) are equal, in the setting and the profile that the numbers are of
+abbrev Equal : List ℤ → List ℤ → List ℤ → List ℤ → List ℕ → ℕ → ℕ → ℕ → ℕ → ℕ → ℕ → Type 0
+Equal d1 v d2 dd powers k t right columns i j =
+    (p : Parameters) (f : Profile) → Handed p f t right k columns powers → EqualBefore (t + right) (recomposed p f dd) (joined p f d1 v d2) i j
 
 abbrev Inv-loop : tie.InvT-loop
-Inv-loop setting d1 v d2 dd powers t wide equal₀ i j₀ equal j = (equal ≡ true) × EqualBefore wide (recomposed setting dd) (joined setting d1 v d2) i j
+Inv-loop d1 v d2 dd powers k t right wide columns equal₀ i j₀ equal j = (equal ≡ true) × Equal d1 v d2 dd powers k t right columns i j
 
 abbrev μ-loop : tie.MeasureT-loop
-μ-loop setting d1 v d2 dd powers t wide equal₀ i j₀ equal j = wide - j
+μ-loop d1 v d2 dd powers k t right wide columns equal₀ i j₀ equal j = wide - j
 
 abbrev Inv-rows : tie.InvT-rows
-Inv-rows setting d1 v d2 dd powers t wide equal₀ i₀ equal i = (equal ≡ true) × EqualBefore wide (recomposed setting dd) (joined setting d1 v d2) i 0
+Inv-rows d1 v d2 dd powers k t right wide columns equal₀ i₀ equal i = (equal ≡ true) × Equal d1 v d2 dd powers k t right columns i 0
 
 abbrev μ-rows : tie.MeasureT-rows
-μ-rows setting d1 v d2 dd powers t wide equal₀ i₀ equal i = wide - i
+μ-rows d1 v d2 dd powers k t right wide columns equal₀ i₀ equal i = wide - i
 
--- what is compared, by the function's arguments
-module _ (s : tie.Start Inv-loop μ-loop Inv-rows μ-rows) where
+-- what follows from the profile
+module _ (c : tie.After-right Inv-loop μ-loop Inv-rows μ-rows) where
+  abbrev start : tie.Start Inv-loop μ-loop Inv-rows μ-rows
+  start = c .before .before
+
   abbrev across : ℕ
-  across = 2 * s .args .setting .t
+  across = start .args .setting .t + c .right .result
+
+  given : let s = start .args .setting in Handed (parametersOf s) (start .args .profile) (s .t) (c .right .result) (s .k) (across * s .k) (s .powers)
+  given = handed (start .pre .0 .0) (c .right .ensures)
+
+  -- the matrices that are compared have at most 32 columns, and D~ has at most 512
+  narrow : across ≤ 32
+  narrow =
+      let acc = rebuilt-accepted (start .args .setting) (start .pre .0 .0) in
+      omega (arith, c .right .ensures, right-high (start .args .setting .t) (start .args .profile) (acc .t-low), acc .t-high)
+
+  few : across * start .args .setting .k ≤ 512
+  few = rw (given .wide-is) (wide-high (start .args .setting) (start .pre .0 .0) (start .args .profile))
 
   abbrev X : Matrix
-  X = recomposed (s .args .setting) (s .args .dd .now)
+  X = recomposed (parametersOf (start .args .setting)) (start .args .profile) (start .args .dd .now)
 
   abbrev Y : Matrix
-  Y = joined (s .args .setting) (s .args .d1 .now) (s .args .v .now) (s .args .d2 .now)
+  Y = joined (parametersOf (start .args .setting)) (start .args .profile) (start .args .d1 .now) (start .args .v .now) (start .args .d2 .now)
 
-  -- the joined matrices have at most 32 columns
-  narrow : across ≤ 32
-  narrow = omega (arith, rebuilt-accepted (s .args .setting) (s .pre .0 .0) .t-high)
+-- the numbers, from the inner loop
+abbrev from-loop : tie.At-loop Inv-loop μ-loop Inv-rows μ-rows → tie.After-right Inv-loop μ-loop Inv-rows μ-rows
+from-loop l = l .before .before .before
 
--- the entry, from either loop
-abbrev from-rows : tie.At-rows Inv-loop μ-loop Inv-rows μ-rows → tie.Start Inv-loop μ-loop Inv-rows μ-rows
-from-rows r = r .before .before
+right-requires : tie.Need-right-requires Inv-loop μ-loop Inv-rows μ-rows
+right-requires c κs = search needs
 
-abbrev from-loop : tie.At-loop Inv-loop μ-loop Inv-rows μ-rows → tie.Start Inv-loop μ-loop Inv-rows μ-rows
-from-loop l = from-rows (l .before .before)
+add-wide : tie.Need-add-wide Inv-loop μ-loop Inv-rows μ-rows
+add-wide c = omega (arith, narrow c)
 
-mul-wide : tie.Need-mul-wide Inv-loop μ-loop Inv-rows μ-rows
-mul-wide c = omega (arith, narrow (c .before))
+mul-columns : tie.Need-mul-columns Inv-loop μ-loop Inv-rows μ-rows
+mul-columns c = omega (arith, few c)
 
 rows-holds : tie.Need-rows-holds Inv-loop μ-loop Inv-rows μ-rows
-rows-holds c = (refl, equal-none _ _ _)
+rows-holds c = (refl, λ p f h. equal-none _ _ _)
 
 loop-holds : tie.Need-loop-holds Inv-loop μ-loop Inv-rows μ-rows
 loop-holds c = c .before .rows .inv
@@ -77,15 +98,9 @@ slice-aggregate-block-equals c = search needs
 block-equals-requires : tie.Need-block-equals-requires Inv-loop μ-loop Inv-rows μ-rows
 block-equals-requires c κs =
     let l = c .before .before in
-    let h = from-loop l .pre in
-    ((_, handed (h .0 .0), h .1 .0, h .1 .1, h .0 .1, h .0 .2, h .0 .3), (l .before .rows-test .taken, c .before .loop-test .taken))
-
--- what is answered of an entry
-told : (c : tie.After-block-equals Inv-loop μ-loop Inv-rows μ-rows) →
-    let l = c .before .before .before in
-    let s = from-loop l in
-    c .block-equals .result ≡ eqZ (X s (l .before .before .rows .i) (l .loop .j)) (Y s (l .before .before .rows .i) (l .loop .j))
-told c = c .block-equals .ensures _ (handed (from-loop (c .before .before .before) .pre .0 .0))
+    let r = from-loop l in
+    let h = start r .pre in
+    ((_, _, given r, h .1 .0, h .1 .1, h .0 .1, h .0 .2, h .0 .3), (l .before .rows-test .taken, c .before .loop-test .taken))
 
 add-j : tie.Need-add-j Inv-loop μ-loop Inv-rows μ-rows
 add-j c = omega (arith, narrow (from-loop (c .before .before .before .before)))
@@ -95,9 +110,10 @@ loop-less c = search needs
 
 loop-again : tie.Need-loop-again Inv-loop μ-loop Inv-rows μ-rows
 loop-again c =
-    let l = c .before .before .before .before in
-    let s = from-loop l in
-    (l .loop .inv .0, goes-on (across s) (X s) (Y s) eqZ eqZ-iff (l .before .before .rows .i) (l .loop .j) _ (told (c .before)) (c .if1 .left) (l .loop .inv .1))
+    let l = c .before .before .before .before in (
+      l .loop .inv .0,
+      λ p f h. goes-on (across (from-loop l)) _ _ eqZ eqZ-iff (l .before .before .rows .i) (l .loop .j) _ (c .before .block-equals .ensures p f h) (c .if1 .left) (l .loop .inv .1 p f h),
+    )
 
 add-i : tie.Need-add-i Inv-loop μ-loop Inv-rows μ-rows
 add-i c = omega (arith, narrow (from-loop (c .before)))
@@ -108,20 +124,24 @@ rows-less c = search needs
 rows-again : tie.Need-rows-again Inv-loop μ-loop Inv-rows μ-rows
 rows-again c =
     let l = c .before in
-    let s = from-loop l in
-    (l .loop .inv .0, equal-row (across s) (X s) (Y s) (l .before .before .rows .i) (l .loop .j) (omega arith) (l .loop .inv .1))
+    (l .loop .inv .0, λ p f h. equal-row (across (from-loop l)) _ _ (l .before .before .rows .i) (l .loop .j) (omega arith) (l .loop .inv .1 p f h))
 
 returns : tie.Need-returns Inv-loop μ-loop Inv-rows μ-rows
 returns c =
-    let r = c .before in
-    let s = from-rows r in
-    r .rows .inv .0 ∙ equal-all (across s) (X s) (Y s) eqZ eqZ-iff (across s) (r .rows .i) (omega arith) (r .rows .inv .1)
+    let r = c .before .before in
+    let s = start r in
+    let i = c .before .rows in
+    i .inv .0
+    ∙ equal-all (across r) (X r) (Y r) eqZ eqZ-iff (across r) (i .i) (omega arith) (i .inv .1 _ _ (given r))
+    ∙ ap (λ (n : ℕ). equal (s .args .setting .t + n) (s .args .setting .t + n) (X r) (Y r)) (r .right .ensures)
 
 returns-2 : tie.Need-returns-2 Inv-loop μ-loop Inv-rows μ-rows
 returns-2 c =
     let l = c .before .before .before .before in
-    let s = from-loop l in
-    stops (across s) (X s) (Y s) eqZ eqZ-iff (l .before .before .rows .i) (l .loop .j) _ (told (c .before)) (across s) (l .before .rows-test .taken) (c .before .before .before .loop-test .taken) (c .if1 .taken)
+    let r = from-loop l in
+    let s = start r in
+    stops (across r) (X r) (Y r) eqZ eqZ-iff (l .before .before .rows .i) (l .loop .j) _ (c .before .block-equals .ensures _ _ (given r)) (across r) (l .before .rows-test .taken) (c .before .before .before .loop-test .taken) (c .if1 .taken)
+    ∙ ap (λ (n : ℕ). equal (s .args .setting .t + n) (s .args .setting .t + n) (X r) (Y r)) (r .right .ensures)
 
 pub norm-holds-spec : {M : Type 1} → statement M
 norm-holds-spec =
@@ -131,7 +151,9 @@ norm-holds-spec =
     μ-loop
     Inv-rows
     μ-rows
-    mul-wide
+    right-requires
+    add-wide
+    mul-columns
     rows-holds
     loop-holds
     slice-aggregate-block-equals

@@ -1,13 +1,15 @@
 -- `equations::words_equal` meets its contract: the words sum up to their entry of T~ G, modulo 2^64.
 use borrow.Author.Needs.{needs}
 use mathlib.Core.Path.{sym, _∙_, ap, ap₂}
-use Prim.Native.Nat.{_+_, _*_, _^_, _≤_}
+use Prim.Native.Nat.{ℕ, _+_, _*_, _^_, _≤_}
 use native.Mathlib.Omega.{arith}
 use lib.Dec.{eqb}
 use lib.IntN.{pos}
 use lib.ListN.{length}
 use Rattle.integers.specs.Residues.{word}
 use Rattle.integers.proofs.Residues.{residue-small}
+use Rattle.matrices.specs.Tables.{unsigned}
+use Rattle.lova.specs.Fold.{beside}
 use Rattle.equations.proofs.Recomposed.{powers-long, block-within, block-sum}
 use Rattle.equations.proofs.words_equal.Statement.{statement}
 use Rattle.equations.proofs.words_equal.Tie as tie
@@ -17,7 +19,7 @@ within : (s : tie.Start) → let a = s .args in a .i * a .columns + a .j * a .k 
 within s =
     let a = s .args in
     let h = s .pre .0 in
-    rw (h .2) (block-within (h .1) (a .rows) (a .i) (a .j) (s .pre .1 .2) (s .pre .1 .3))
+    rw (h .3) (block-within (h .2) (a .rows) (a .i) (a .j) (s .pre .1 .2) (s .pre .1 .3))
 
 mul-start : tie.Need-mul-start
 mul-start c = omega (arith, within (c .before .before .before .before))
@@ -31,20 +33,21 @@ add-start c = omega (arith, within (c .before .before .before .before))
 weighted-words-requires : tie.Need-weighted-words-requires
 weighted-words-requires c κs =
     let s = c .before .before .before .before in
-    (within s, powers-long (s .pre .0 .1))
+    (within s, powers-long (s .pre .0 .2))
 
 joined-t-requires : tie.Need-joined-t-requires
 joined-t-requires c κs = search needs
 
 returns : tie.Need-returns
-returns c p h =
+returns c p f h =
     let s = c .before .before .before .before .before .before in
     let a = s .args in
     let x = c .before .weighted-words in
     let y = c .joined-t in
     ap₂ eqb
     (x .ensures ∙ ap word (block-sum h pos 0 (a .tt .now) (a .i) (a .j) (s .pre .1 .3)))
-    (sym (residue-small (2 ^ 64) (y .result) (y .ok)) ∙ ap word (y .ensures))
+    (sym (residue-small (2 ^ 64) (y .result) (y .ok))
+    ∙ ap word (y .ensures ∙ ap₂ (λ (t r : ℕ). beside t (unsigned t (a .t1 .now)) (unsigned r (a .t2 .now)) (a .i) (a .j)) (h .t-is) (h .right-is)))
 
 pub words-equal-spec : {M : Type 1} → statement M
 words-equal-spec =

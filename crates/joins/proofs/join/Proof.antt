@@ -1,6 +1,6 @@
 -- `joins::join` meets its contract: it is refused by the setting's rules or by its own, or else writes T and D.
 use borrow.Author.Needs.{needs}
-use mathlib.Core.Path.{_≡_, _∙_, ap₂}
+use mathlib.Core.Path.{_≡_, sym, _∙_, ap, ap₂}
 use mathlib.Core.List.{List}
 use lib.IntN.{ℤ}
 use native.Mathlib.Omega.{arith}
@@ -10,10 +10,12 @@ use Rattle.settings.specs.Settings.{Parameters, parametersOf}
 use Rattle.lova.specs.Answers.{done, answerOf, Outcome, ends}
 use Rattle.lova.specs.Stored.{Instance}
 use Rattle.lova.specs.Calls.{JoinLengths, Rebuilt}
-use Rattle.lova.specs.Join.{joinRules, joinedInstance, join}
+use Rattle.lova.specs.Repeats.{repeatedInstance, repeatedV}
+use Rattle.lova.specs.Join.{joinRules, joinedInstance, joinIn}
 use Rattle.lova.proofs.Refusals.{join-proper}
 use Rattle.lova.proofs.Rebuilding.{rebuilt, rebuilt-accepted}
 use Rattle.lova.proofs.WaysOut.{out-by-setting, out-by-own, none-applied, out-at-end}
+use Rattle.joins.proofs.Columns.{joined-once}
 use Rattle.joins.proofs.join.Statement.{statement}
 use Rattle.joins.proofs.join.Tie as tie
 
@@ -28,38 +30,38 @@ abbrev out : tie.Start → Instance
 out s = record { T = s .args .t .now; D = s .args .d .now }
 
 abbrev rules : tie.Start → Parameters → List Rule
-rules s p = joinRules p (first s) (second s) (s .args .v .now) (out s)
+rules s p = joinRules p (s .args .profile) (first s) (second s) (s .args .v .now) (out s)
 
 abbrev result : tie.Start → Parameters → Outcome Instance
-result s p = ends done (joinedInstance p (first s) (second s) (s .args .v .now))
+result s p = ends done (joinedInstance p (first s) (repeatedInstance p (s .args .profile) (second s)) (repeatedV p (s .args .profile) (s .args .v .now)))
 
 abbrev start : tie.After-rebuilt → tie.Start
 start c = c .before .before .before .before
 
 -- the constructor's call before a call of the refusal
-abbrev fresh : tie.Else2 → tie.After-rebuilt
-fresh c = c .before .before .before .before .before .before
+abbrev new-at : tie.Else2 → tie.After-rebuilt
+new-at c = c .before .before .before .before .before .before
 
 -- the setting is accepted
-none : (c : tie.Else2) → fresh c .rebuilt .result .refusal ≡ 0
+none : (c : tie.Else2) → new-at c .rebuilt .result .refusal ≡ 0
 none c = omega arith
 
 -- where no rule applies, each slice has the length of its matrix
 lengths : (c : tie.Else2) →
-    let s = start (fresh c) in
-    JoinLengths (parametersOf (fresh c .rebuilt .result .setting)) (first s) (second s) (s .args .v .now) (out s)
+    let s = start (new-at c) in
+    JoinLengths (parametersOf (new-at c .rebuilt .result .setting)) (s .args .profile) (first s) (second s) (s .args .v .now) (out s)
 lengths c =
-    let n = fresh c in
+    let n = new-at c in
     let s = start n in
     let p = parametersOf (n .rebuilt .result .setting) in
-    join-proper p (first s) (second s) (s .args .v .now) (out s) .0
+    join-proper p (s .args .profile) (first s) (second s) (s .args .v .now) (out s) .0
     (none-applied (rules s) (out s) (result s) (parametersOf (s .args .setting)) (n .rebuilt .result) (n .rebuilt .ensures) (none c) (c .before .join-refusal .result) (c .before .join-refusal .ensures) (c .if2 .left)) .lengths
 
 rebuilt-requires : tie.Need-rebuilt-requires
 rebuilt-requires c κs = search needs
 
 returns : tie.Need-returns
-unfolding join answerOf
+unfolding joinIn answerOf
 returns c =
     let n = c .before in
     let s = start n in
@@ -77,18 +79,18 @@ same-length-2 : tie.Need-same-length-2
 same-length-2 c = search needs
 
 returns-2 : tie.Need-returns-2
-unfolding join answerOf
+unfolding joinIn answerOf
 returns-2 c =
     let n = c .before .before .before .before .before .before in
     let s = start n in
     out-by-own (rules s) (out s) (result s) (parametersOf (s .args .setting)) (n .rebuilt .result) (n .rebuilt .ensures) (omega arith) (c .before .join-refusal .result) (c .before .join-refusal .ensures) (c .if2 .taken)
 
 -- the new setting is the constructor's, and the joined matrices have at most 32 columns
-again : (c : tie.Else2) → Rebuilt (fresh c .rebuilt .result .setting)
-again c = let n = fresh c in rebuilt (parametersOf (start n .args .setting)) (n .rebuilt .result) (n .rebuilt .ensures) (none c)
+again : (c : tie.Else2) → Rebuilt (new-at c .rebuilt .result .setting)
+again c = let n = new-at c in rebuilt (parametersOf (start n .args .setting)) (n .rebuilt .result) (n .rebuilt .ensures) (none c)
 
-narrow : (c : tie.Else2) → 2 * fresh c .rebuilt .result .setting .t ≤ 32
-narrow c = omega (arith, rebuilt-accepted (fresh c .rebuilt .result .setting) (again c) .t-high)
+narrow : (c : tie.Else2) → 2 * new-at c .rebuilt .result .setting .t ≤ 32
+narrow c = omega (arith, rebuilt-accepted (new-at c .rebuilt .result .setting) (again c) .t-high)
 
 write-t-requires : tie.Need-write-t-requires
 write-t-requires c κs = let l = lengths (c .before) in (l .0 .0, l .1 .0, l .3 .0, omega (arith, narrow (c .before)))
@@ -106,13 +108,14 @@ same-length-4 : tie.Need-same-length-4
 same-length-4 c = search needs
 
 returns-3 : tie.Need-returns-3
-unfolding join answerOf joinedInstance
+unfolding joinIn answerOf
 returns-3 c =
     let w = c .before in
     let e = w .before .before .before .before .before .before in
-    let n = fresh e in
+    let n = new-at e in
     let s = start n in
     ap₂ (λ (t : List ℕ) (d : List ℤ). ends done (record { T = t; D = d })) (w .before .before .before .before .write-t .ensures) (w .write-d .ensures)
+    ∙ ap (λ (I : Instance). ends done I) (sym (joined-once (parametersOf (n .rebuilt .result .setting)) (s .args .profile) (first s) (second s) (s .args .v .now)))
     ∙ out-at-end (rules s) (out s) (result s) (parametersOf (s .args .setting)) (n .rebuilt .result) (n .rebuilt .ensures) (none e) (e .before .join-refusal .result) (e .before .join-refusal .ensures) (e .if2 .left)
 
 pub join-spec : {M : Type 1} → statement M

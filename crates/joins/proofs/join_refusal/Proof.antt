@@ -1,15 +1,20 @@
 -- `joins::join_refusal` meets its contract: its tests are those of the rule.
 use borrow.Author.Needs.{needs}
 use borrow.Author.Tests.{eq-eqb, ne-eqb, not-true, not-false}
-use mathlib.Core.Path.{_≡_, refl, sym, _∙_}
+use mathlib.Core.Path.{_≡_, refl, sym, _∙_, ap}
 use mathlib.Core.Bool.{Bool, true, _&&_}
+use Prim.Native.Nat.{ℕ, _*_}
 use native.Mathlib.Omega.{arith}
 use native.Mathlib.Nat.{mul-le-mul}
+use lib.Dec.{eqb}
+use lib.ListN.{length}
 use Rattle.settings.specs.Rules.{firstOf}
 use Rattle.settings.specs.Settings.{parametersOf}
-use Rattle.lova.specs.Tests.{fitsInstance}
+use Rattle.lova.specs.Stored.{sentV}
+use Rattle.lova.specs.Tests.{fits, fitsInstance, fitsRight}
 use Rattle.lova.specs.Join.{joinRules}
 use Rattle.lova.proofs.Rebuilding.{rebuilt-accepted}
+use Rattle.lova.proofs.Widths.{right-few}
 use Rattle.joins.proofs.join_refusal.Statement.{statement}
 use Rattle.joins.proofs.join_refusal.Tie as tie
 
@@ -24,7 +29,7 @@ passed-one : (c : tie.Else1) → one (start (c .before)) ≡ true
 passed-one c = sym (c .before .instance-fits .ensures) ∙ not-false (c .before .instance-fits .result) (c .if1 .left)
 
 abbrev two : tie.Start → Bool
-two s = one s && fitsInstance (parametersOf (s .args .setting)) (record { T = s .args .t2 .now; D = s .args .d2 .now })
+two s = one s && fitsRight (parametersOf (s .args .setting)) (s .args .profile) (record { T = s .args .t2 .now; D = s .args .d2 .now })
 
 passed-two : (c : tie.Else2) → two (start (c .before .before .before)) ≡ true
 passed-two c = rw (passed-one (c .before .before)) (sym (c .before .instance-fits2 .ensures) ∙ not-false (c .before .instance-fits2 .result) (c .if2 .left))
@@ -43,15 +48,29 @@ returns-2 : tie.Need-returns-2
 unfolding joinRules firstOf
 returns-2 c = rw (passed-one (c .before .before), ← c .before .instance-fits2 .ensures, not-true (c .before .instance-fits2 .result) (c .if2 .taken)) refl
 
+right-requires : tie.Need-right-requires
+right-requires c κs = search needs
+
 mul-if3 : tie.Need-mul-if3
 mul-if3 c =
-    let s = start (c .before .before .before .before) in
+    let r = c .before in
+    let s = start (r .before .before .before .before) in
     let acc = rebuilt-accepted (s .args .setting) (s .pre) in
-    omega (arith, mul-le-mul (acc .t-high) (acc .t-high))
+    omega (arith, mul-le-mul (acc .t-high) (right-few (s .args .setting) (s .pre) (s .args .profile) (r .right .result) (r .right .ensures)))
+
+-- the test of v's length
+tested : (c : tie.After-struct-known) →
+    let r = c .before in
+    let a = start (r .before .before .before .before) .args in
+    fits (sentV (parametersOf (a .setting)) (a .profile)) (a .v .now) ≡ eqb (length (a .v .now)) (a .setting .t * r .right .result)
+tested c =
+    let r = c .before in
+    let a = start (r .before .before .before .before) .args in
+    ap (λ (n : ℕ). eqb (length (a .v .now)) (a .setting .t * n)) (sym (r .right .ensures))
 
 returns-3 : tie.Need-returns-3
 unfolding joinRules firstOf
-returns-3 c = rw (passed-two (c .before .before), ne-eqb _ _ (c .if3 .taken)) refl
+returns-3 c = rw (passed-two (c .before .before .before), tested (c .before), ne-eqb _ _ (c .if3 .taken)) refl
 
 joined-fits-requires : tie.Need-joined-fits-requires
 joined-fits-requires c κs = search needs
@@ -60,13 +79,13 @@ returns-4 : tie.Need-returns-4
 unfolding joinRules firstOf
 returns-4 c =
     let v = c .before .before in
-    rw (passed-two (v .before .before), eq-eqb _ _ (v .if3 .left), ← c .before .joined-fits .ensures, not-true (c .before .joined-fits .result) (c .if4 .taken)) refl
+    rw (passed-two (v .before .before .before), tested (v .before), eq-eqb _ _ (v .if3 .left), ← c .before .joined-fits .ensures, not-true (c .before .joined-fits .result) (c .if4 .taken)) refl
 
 returns-5 : tie.Need-returns-5
 unfolding joinRules firstOf
 returns-5 c =
     let v = c .before .before in
-    rw (passed-two (v .before .before), eq-eqb _ _ (v .if3 .left), ← c .before .joined-fits .ensures, not-false (c .before .joined-fits .result) (c .if4 .left)) refl
+    rw (passed-two (v .before .before .before), tested (v .before), eq-eqb _ _ (v .if3 .left), ← c .before .joined-fits .ensures, not-false (c .before .joined-fits .result) (c .if4 .left)) refl
 
 pub join-refusal-spec : {M : Type 1} → statement M
 join-refusal-spec =
@@ -76,6 +95,7 @@ join-refusal-spec =
     returns
     instance-fits-requires-2
     returns-2
+    right-requires
     mul-if3
     returns-3
     joined-fits-requires

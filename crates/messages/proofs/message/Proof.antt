@@ -8,10 +8,11 @@ use Rattle.settings.specs.Settings.{Parameters, parametersOf}
 use Rattle.lova.specs.Answers.{done, answerOf, Outcome, ends}
 use Rattle.lova.specs.Stored.{Prepared}
 use Rattle.lova.specs.Calls.{ProperMessage, Rebuilt}
-use Rattle.lova.specs.Message.{messageRules, preparedOf, message}
+use Rattle.lova.specs.Message.{messageRules, preparedIn, messageIn}
 use Rattle.lova.proofs.Refusals.{message-proper}
-use Rattle.lova.proofs.Rebuilding.{rebuilt}
+use Rattle.lova.proofs.Rebuilding.{rebuilt, rebuilt-accepted}
 use Rattle.lova.proofs.WaysOut.{out-by-setting, out-by-own, none-applied, out-at-end}
+use Rattle.lova.proofs.Widths.{right-most, right-few, wide-few}
 use Rattle.messages.proofs.Preparing.{cross-lengths, cross-sizes, witness-lengths, commitment-lengths, gram-asks, prepared-is}
 use Rattle.messages.proofs.message.Statement.{statement}
 use Rattle.messages.proofs.message.Tie as tie
@@ -22,10 +23,10 @@ module _ (s : tie.Start) where
   out = record { message = record { «V» = s .args .v .now; T~ = s .args .tt .now; D~ = s .args .dd .now }; S~ = s .args .ss .now }
 
   abbrev rules : Parameters → List Rule
-  rules p = messageRules p (s .args .a .now) (s .args .s1 .now) (s .args .s2 .now) out
+  rules p = messageRules p (s .args .profile) (s .args .a .now) (s .args .s1 .now) (s .args .s2 .now) out
 
   abbrev result : Parameters → Outcome Prepared
-  result p = ends done (preparedOf p (s .args .a .now) (s .args .s1 .now) (s .args .s2 .now))
+  result p = ends done (preparedIn p (s .args .profile) (s .args .a .now) (s .args .s1 .now) (s .args .s2 .now))
 
 -- the entry, and the setting that was built anew
 abbrev start : tie.After-rebuilt → tie.Start
@@ -41,7 +42,7 @@ rebuilt-requires : tie.Need-rebuilt-requires
 rebuilt-requires c κs = search needs
 
 returns : tie.Need-returns
-unfolding message answerOf
+unfolding messageIn answerOf
 returns c =
     let n = c .before in
     let s = start n in
@@ -67,7 +68,7 @@ same-length-4 : tie.Need-same-length-4
 same-length-4 c = search needs
 
 returns-2 : tie.Need-returns-2
-unfolding message answerOf
+unfolding messageIn answerOf
 returns-2 c =
     let w = c .before in
     let e = w .before .before .before .before .before .before in
@@ -79,42 +80,69 @@ returns-2 c =
 proper : (c : tie.Else2) →
     let n = else-1 c .before in
     let s = start n in
-    ProperMessage (anew n) (s .args .a .now) (s .args .s1 .now) (s .args .s2 .now) (out s)
+    ProperMessage (anew n) (s .args .profile) (s .args .a .now) (s .args .s1 .now) (s .args .s2 .now) (out s)
 proper c =
     let n = else-1 c .before in
     let s = start n in
-    message-proper (anew n) (s .args .a .now) (s .args .s1 .now) (s .args .s2 .now) (out s) .0
+    message-proper (anew n) (s .args .profile) (s .args .a .now) (s .args .s1 .now) (s .args .s2 .now) (out s) .0
     (none-applied (rules s) (out s) (result s) (parametersOf (s .args .setting)) (n .rebuilt .result) (n .rebuilt .ensures) (else-1 c .if1 .left) (c .before .message-refusal .result) (c .before .message-refusal .ensures) (c .if2 .left))
+
+right-requires : tie.Need-right-requires
+right-requires c κs = search needs
+
+add-wide : tie.Need-add-wide
+add-wide c =
+    let r = c .before in
+    let e = r .before in
+    let n = else-1 e .before in
+    let s = start n in
+    let w = n .rebuilt .result .setting in
+    let whole = again (else-1 e) in
+    omega (arith, rebuilt-accepted w whole .t-high, right-few w whole (s .args .profile) (r .right .result) (r .right .ensures))
+
+mul-wide : tie.Need-mul-wide
+mul-wide c =
+    let r = c .before .before in
+    let e = r .before in
+    let n = else-1 e .before in
+    let s = start n in
+    omega (arith, wide-few (n .rebuilt .result .setting) (again (else-1 e)) (s .args .profile) (r .right .result) (r .right .ensures))
 
 cross-products-requires : tie.Need-cross-products-requires
 cross-products-requires c κs =
-    let e = c .before in
+    let r = c .before .before .before in
+    let e = r .before in
     let n = else-1 e .before in
     let s = start n in (
-      cross-lengths (n .rebuilt .result .setting) (again (else-1 e)) (s .args .a .now) (s .args .s1 .now) (s .args .s2 .now) (out s) (proper e),
-      cross-sizes (n .rebuilt .result .setting) (again (else-1 e)) (s .args .a .now) (s .args .s1 .now) (s .args .s2 .now) (out s) (proper e),
+      cross-lengths (n .rebuilt .result .setting) (again (else-1 e)) (s .args .profile) (r .right .result) (r .right .ensures) (s .args .a .now) (s .args .s1 .now) (s .args .s2 .now) (out s) (proper e),
+      cross-sizes (n .rebuilt .result .setting) (again (else-1 e)) (s .args .profile) (r .right .result) (r .right .ensures) (s .args .a .now) (s .args .s1 .now) (s .args .s2 .now) (out s) (proper e),
     )
 
 write-witness-requires : tie.Need-write-witness-requires
 write-witness-requires c κs =
-    let e = c .before .before .before .before in
+    let r = c .before .before .before .before .before .before in
+    let e = r .before in
     let n = else-1 e .before in
-    let s = start n in
-    ((again (else-1 e), omega arith), witness-lengths (n .rebuilt .result .setting) (again (else-1 e)) (s .args .a .now) (s .args .s1 .now) (s .args .s2 .now) (out s) (proper e))
+    let s = start n in (
+      (again (else-1 e), right-most (n .rebuilt .result .setting) (again (else-1 e)) (s .args .profile) (r .right .result) (r .right .ensures)),
+      witness-lengths (n .rebuilt .result .setting) (again (else-1 e)) (s .args .profile) (r .right .result) (r .right .ensures) (s .args .a .now) (s .args .s1 .now) (s .args .s2 .now) (out s) (proper e),
+    )
 
 commitment-requires : tie.Need-commitment-requires
 commitment-requires c κs =
-    let e = c .before .before .before .before .before .before .before .before in
+    let r = c .before .before .before .before .before .before .before .before .before .before in
+    let e = r .before in
     let n = else-1 e .before in
     let s = start n in
-    commitment-lengths (n .rebuilt .result .setting) (again (else-1 e)) (s .args .a .now) (s .args .s1 .now) (s .args .s2 .now) (out s) (proper e) _ (c .before .before .before .write-witness .ensures)
+    commitment-lengths (n .rebuilt .result .setting) (again (else-1 e)) (s .args .profile) (r .right .result) (r .right .ensures) (s .args .a .now) (s .args .s1 .now) (s .args .s2 .now) (out s) (proper e) _ (c .before .before .before .write-witness .ensures)
 
 small-gram-requires : tie.Need-small-gram-requires
 small-gram-requires c κs =
-    let e = c .before .before .before .before .before .before .before .before .before .before .before .before .before in
+    let r = c .before .before .before .before .before .before .before .before .before .before .before .before .before .before .before in
+    let e = r .before in
     let n = else-1 e .before in
     let s = start n in
-    gram-asks (n .rebuilt .result .setting) (again (else-1 e)) (s .args .a .now) (s .args .s1 .now) (s .args .s2 .now) (out s) (proper e) _ (c .before .before .before .before .before .before .before .before .write-witness .ensures)
+    gram-asks (n .rebuilt .result .setting) (again (else-1 e)) (s .args .profile) (r .right .result) (r .right .ensures) (s .args .a .now) (s .args .s1 .now) (s .args .s2 .now) (out s) (proper e) _ (c .before .before .before .before .before .before .before .before .write-witness .ensures)
 
 same-length-5 : tie.Need-same-length-5
 same-length-5 c = search needs
@@ -129,13 +157,14 @@ same-length-8 : tie.Need-same-length-8
 same-length-8 c = search needs
 
 returns-3 : tie.Need-returns-3
-unfolding message answerOf
+unfolding messageIn answerOf
 returns-3 c =
-    let e = c .before .before .before .before .before .before .before .before .before .before .before .before .before .before .before in
+    let r = c .before .before .before .before .before .before .before .before .before .before .before .before .before .before .before .before .before in
+    let e = r .before in
     let n = else-1 e .before in
     let s = start n in
     ap (λ (x : Prepared). ends done x)
-    (prepared-is (n .rebuilt .result .setting) (again (else-1 e)) (s .args .a .now) (s .args .s1 .now) (s .args .s2 .now) (out s) (proper e) _ (c .before .before .before .before .before .before .before .before .before .before .write-witness .ensures) _ _ _ (c .before .before .before .before .before .before .before .before .before .before .before .before .before .cross-products .ensures) (c .before .before .before .before .before .before .commitment .ensures) (c .before .small-gram .ensures))
+    (prepared-is (n .rebuilt .result .setting) (again (else-1 e)) (s .args .profile) (r .right .result) (r .right .ensures) (s .args .a .now) (s .args .s1 .now) (s .args .s2 .now) (out s) (proper e) _ (c .before .before .before .before .before .before .before .before .before .before .write-witness .ensures) _ _ _ (c .before .before .before .before .before .before .before .before .before .before .before .before .before .cross-products .ensures) (c .before .before .before .before .before .before .commitment .ensures) (c .before .small-gram .ensures))
     ∙ out-at-end (rules s) (out s) (result s) (parametersOf (s .args .setting)) (n .rebuilt .result) (n .rebuilt .ensures) (else-1 e .if1 .left) (e .before .message-refusal .result) (e .before .message-refusal .ensures) (e .if2 .left)
 
 pub message-spec : {M : Type 1} → statement M
@@ -150,6 +179,9 @@ message-spec =
     same-length-3
     same-length-4
     returns-2
+    right-requires
+    add-wide
+    mul-wide
     cross-products-requires
     write-witness-requires
     commitment-requires

@@ -1,30 +1,55 @@
--- `messages::message_lengths` meets its contract: the seven lengths, with N for the setting's own columns.
+-- `messages::message_lengths` meets its contract: the seven lengths, with the columns of the profile.
 use borrow.Author.Needs.{needs}
-use mathlib.Core.Path.{_∙_, ap, ap₂}
+use mathlib.Core.Path.{_∙_, ap₂}
 use mathlib.Core.Bool.{Bool, _&&_}
-use Prim.Native.Nat.{ℕ, _*_}
+use Prim.Native.Nat.{ℕ, _+_, _*_, _≤_}
 use native.Mathlib.Omega.{arith}
 use native.Mathlib.Nat.{mul-le-mul}
 use lib.Dec.{eqb}
 use lib.ListN.{length}
-use Rattle.lova.proofs.Rebuilding.{rebuilt-accepted, N-is, N-high}
+use Rattle.settings.proofs.Accepted.{Accepted}
+use Rattle.settings.specs.Settings.{parametersOf}
+use Rattle.lova.proofs.Rebuilding.{rebuilt-accepted}
+use Rattle.lova.proofs.Widths.{right-few, wide-of, wide-few}
 use Rattle.messages.proofs.message_lengths.Statement.{statement}
 use Rattle.messages.proofs.message_lengths.Tie as tie
 
-mul-size : tie.Need-mul-size
-mul-size c =
-    let s = c .before .before .before in
-    let acc = rebuilt-accepted (s .args .setting) (s .pre) in
-    omega (arith, mul-le-mul (acc .m-high) (acc .t-high))
+abbrev start : tie.After-right → tie.Start
+start c = c .before .before .before
+
+accepted : (c : tie.After-right) → Accepted (parametersOf (start c .args .setting))
+accepted c = rebuilt-accepted (start c .args .setting) (start c .pre)
+
+few : (c : tie.After-right) → c .right .result ≤ 16
+few c =
+    let s = start c in
+    right-few (s .args .setting) (s .pre) (s .args .profile) (c .right .result) (c .right .ensures)
+
+narrow : (c : tie.After-right) → (start c .args .setting .t + c .right .result) * start c .args .setting .k ≤ 512
+narrow c =
+    let s = start c in
+    wide-few (s .args .setting) (s .pre) (s .args .profile) (c .right .result) (c .right .ensures)
+
+right-requires : tie.Need-right-requires
+right-requires c κs = search needs
+
+add-wide : tie.Need-add-wide
+add-wide c = omega (arith, accepted (c .before) .t-high, few (c .before))
+
+mul-wide : tie.Need-mul-wide
+mul-wide c = omega (arith, narrow (c .before .before))
 
 mul-both : tie.Need-mul-both
-mul-both c =
-    let s = c .before .before .before .before in
-    let acc = rebuilt-accepted (s .args .setting) (s .pre) in
-    omega (arith, mul-le-mul (acc .n-high) (acc .m-high))
+mul-both c = let acc = accepted (c .before .before .before) in omega (arith, mul-le-mul (acc .n-high) (acc .m-high))
+
+mul-both-2 : tie.Need-mul-both-2
+mul-both-2 c = let acc = accepted (c .before .before .before .before) in omega (arith, mul-le-mul (acc .m-high) (acc .t-high))
 
 both-requires : tie.Need-both-requires
 both-requires c κs = search needs
+
+mul-both-3 : tie.Need-mul-both-3
+mul-both-3 c = let r = c .before .before .before .before .before .before in omega (arith, mul-le-mul (accepted r .m-high) (few r))
 
 both-requires-2 : tie.Need-both-requires-2
 both-requires-2 c κs = search needs
@@ -32,11 +57,8 @@ both-requires-2 c κs = search needs
 message-fits-requires : tie.Need-message-fits-requires
 message-fits-requires c κs = search needs
 
-mul-both-2 : tie.Need-mul-both-2
-mul-both-2 c =
-    let s = c .before .before .before .before .before .before .before .before in
-    let acc = rebuilt-accepted (s .args .setting) (s .pre) in
-    omega (arith, mul-le-mul (acc .m-high) (N-high (s .args .setting) (s .pre)))
+mul-both-4 : tie.Need-mul-both-4
+mul-both-4 c = let r = c .before .before .before .before .before .before .before .before .before in omega (arith, mul-le-mul (accepted r .m-high) (narrow r))
 
 both-requires-3 : tie.Need-both-requires-3
 both-requires-3 c κs = search needs
@@ -46,24 +68,30 @@ both-requires-4 c κs = search needs
 
 returns : tie.Need-returns
 returns c =
-    let s = c .before .before .before .before .before .before .before .before .before .before in
+    let b = c .before .before .before .before in
+    let r = b .before .before .before .before .before .before .before in
+    let s = start r in
     let a = s .args in
-    let inputs = c .before .before .before .before .both2 .ensures
-    ∙ ap (λ (x : Bool). x && eqb (length (a .s2 .now)) (a .setting .m * a .setting .t)) (c .before .before .before .before .before .both .ensures) in
+    let inputs = b .both2 .ensures ∙ ap₂ (λ (x : Bool) (right : ℕ). x && eqb (length (a .s2 .now)) (a .setting .m * right)) (b .before .before .both .ensures) (r .right .ensures) in
     let outputs = c .before .both3 .ensures
-    ∙ ap₂ (λ (x : Bool) (N : ℕ). x && eqb (length (a .ss .now)) (a .setting .m * N)) (c .before .before .before .message-fits .ensures) (N-is (a .setting) (s .pre)) in
+    ∙ ap₂ (λ (x : Bool) (wide : ℕ). x && eqb (length (a .ss .now)) (a .setting .m * wide)) (c .before .before .before .message-fits .ensures)
+    (wide-of (a .setting) (s .pre) (a .profile) (r .right .result) (r .right .ensures)) in
     c .both4 .ensures ∙ ap₂ _&&_ inputs outputs
 
 pub message-lengths-spec : {M : Type 1} → statement M
 message-lengths-spec =
     tie.close
     (tie.spec
-    mul-size
+    right-requires
+    add-wide
+    mul-wide
     mul-both
+    mul-both-2
     both-requires
+    mul-both-3
     both-requires-2
     message-fits-requires
-    mul-both-2
+    mul-both-4
     both-requires-3
     both-requires-4
     returns)

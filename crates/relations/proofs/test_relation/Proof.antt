@@ -7,9 +7,10 @@ use mathlib.Core.List.{List}
 use lib.Dec.{T}
 use Rattle.settings.specs.Rules.{Rule}
 use Rattle.settings.specs.Settings.{Parameters, parametersOf}
+use Rattle.lova.specs.declared.Profile.the-variants.{General}
 use Rattle.lova.specs.Answers.{Outcome, membershipOf, ends, long, products, commitment, member}
 use Rattle.lova.specs.Stored.{Instance}
-use Rattle.lova.specs.Tests.{short}
+use Rattle.lova.specs.Tests.{short, shortRight}
 use Rattle.lova.specs.Calls.{RelationLengths, Short, Rebuilt}
 use Rattle.lova.specs.Relation.{relationRules, productsHold, commitmentHolds, memberWord, relation}
 use Rattle.lova.proofs.Tests.{short-iff}
@@ -85,7 +86,7 @@ columns-within-requires c κs = lengths c .2
 
 -- what each test's outcome says
 short-is : (c : tie.After-columns-within) → short (anew (new-at (c .before))) (start (new-at (c .before)) .args .s .now) ≡ c .columns-within .result
-unfolding short
+unfolding shortRight
 short-is c = sym (c .columns-within .ensures)
 
 products-are : (c : tie.After-products-hold) →
@@ -135,7 +136,7 @@ products-hold-requires : tie.Need-products-hold-requires
 products-hold-requires c κs =
     let e = c .before .before in
     let n = new-at e in
-    let short : Short (anew n) (start n .args .s .now) = short-iff (anew n) (start n .args .s .now) .0 (subst T (sym (passed-short c)) tt) in
+    let short : Short (anew n) (start n .args .s .now) = short-iff (anew n) General (start n .args .s .now) .0 (subst T (sym (passed-short c)) tt) in
     (again (e .before .before .before), lengths e .1 .1, lengths e .2, short)
 
 returns-4 : tie.Need-returns-4

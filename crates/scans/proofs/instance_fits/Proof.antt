@@ -1,26 +1,44 @@
 -- `scans::instance_fits` meets its contract: both lengths are tested, and in an accepted setting both products fit.
-use borrow.Author.Tests.{eq-eqb, ne-eqb}
-use mathlib.Core.Path.{refl}
+use borrow.Author.Needs.{needs}
+use mathlib.Core.Path.{_∙_, ap}
+use mathlib.Core.Bool.{_&&_}
+use Prim.Native.Nat.{ℕ, _*_, _≤_}
 use native.Mathlib.Omega.{arith}
 use native.Mathlib.Nat.{mul-le-mul}
+use lib.Dec.{eqb}
+use lib.ListN.{length}
 use Rattle.lova.proofs.Rebuilding.{rebuilt-accepted}
+use Rattle.lova.proofs.Widths.{right-few}
 use Rattle.scans.proofs.instance_fits.Statement.{statement}
 use Rattle.scans.proofs.instance_fits.Tie as tie
 
-mul-if1 : tie.Need-mul-if1
-mul-if1 c = let acc = rebuilt-accepted (c .before .args .setting) (c .before .pre) in omega (arith, mul-le-mul (acc .n-high) (acc .t-high))
+abbrev start : tie.After-right → tie.Start
+start c = c .before .before
 
-mul-result : tie.Need-mul-result
-mul-result c =
-    let s = c .before .before .before in
-    let acc = rebuilt-accepted (s .args .setting) (s .pre) in
-    omega (arith, mul-le-mul (acc .t-high) (acc .t-high))
+few : (c : tie.After-right) → c .right .result ≤ 16
+few c =
+    let s = start c in
+    right-few (s .args .setting) (s .pre) (s .args .profile) (c .right .result) (c .right .ensures)
+
+right-requires : tie.Need-right-requires
+right-requires c κs = search needs
+
+mul-both : tie.Need-mul-both
+mul-both c =
+    let s = start (c .before) in
+    omega (arith, mul-le-mul (rebuilt-accepted (s .args .setting) (s .pre) .n-high) (few (c .before)))
+
+mul-both-2 : tie.Need-mul-both-2
+mul-both-2 c = omega (arith, mul-le-mul (few (c .before)) (few (c .before)))
+
+both-requires : tie.Need-both-requires
+both-requires c κs = search needs
 
 returns : tie.Need-returns
-returns c = rw (eq-eqb _ _ (c .before .if1 .taken)) refl
-
-returns-2 : tie.Need-returns-2
-returns-2 c = rw (ne-eqb _ _ (c .if1 .left)) refl
+returns c =
+    let r = c .before .before in
+    let a = start r .args in
+    c .both .ensures ∙ ap (λ (right : ℕ). eqb (length (a .t .now)) (a .setting .n * right) && eqb (length (a .d .now)) (right * right)) (r .right .ensures)
 
 pub instance-fits-spec : {M : Type 1} → statement M
-instance-fits-spec = tie.close (tie.spec mul-if1 mul-result returns returns-2)
+instance-fits-spec = tie.close (tie.spec right-requires mul-both mul-both-2 both-requires returns)

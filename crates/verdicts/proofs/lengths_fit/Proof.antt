@@ -6,7 +6,7 @@ use mathlib.Core.Bool.{Bool, true, _&&_}
 use native.Mathlib.Omega.{arith}
 use native.Mathlib.Nat.{mul-le-mul}
 use Rattle.settings.specs.Settings.{parametersOf}
-use Rattle.lova.specs.Tests.{fitsInstance, fitsMessage}
+use Rattle.lova.specs.Tests.{fitsInstance, fitsRight, fitsMessage}
 use Rattle.lova.proofs.Rebuilding.{rebuilt-accepted, N-is}
 use Rattle.verdicts.proofs.lengths_fit.Statement.{statement}
 use Rattle.verdicts.proofs.lengths_fit.Tie as tie
@@ -22,13 +22,13 @@ passed-one : (c : tie.Else1) → one (start (c .before)) ≡ true
 passed-one c = sym (c .before .instance-fits .ensures) ∙ not-false (c .before .instance-fits .result) (c .if1 .left)
 
 abbrev two : tie.Start → Bool
-two s = one s && fitsInstance (parametersOf (s .args .setting)) (record { T = s .args .t2 .now; D = s .args .d2 .now })
+two s = one s && fitsRight (parametersOf (s .args .setting)) (s .args .profile) (record { T = s .args .t2 .now; D = s .args .d2 .now })
 
 passed-two : (c : tie.Else2) → two (start (c .before .before .before)) ≡ true
 passed-two c = rw (passed-one (c .before .before)) (sym (c .before .instance-fits2 .ensures) ∙ not-false (c .before .instance-fits2 .result) (c .if2 .left))
 
 abbrev three : tie.Start → Bool
-three s = two s && fitsMessage (parametersOf (s .args .setting)) (record { «V» = s .args .v .now; T~ = s .args .tt .now; D~ = s .args .dd .now })
+three s = two s && fitsMessage (parametersOf (s .args .setting)) (s .args .profile) (record { «V» = s .args .v .now; T~ = s .args .tt .now; D~ = s .args .dd .now })
 
 passed-three : (c : tie.Else3) → three (start (c .before .before .before .before .before)) ≡ true
 passed-three c = rw (passed-two (c .before .before)) (sym (c .before .message-fits .ensures) ∙ not-false (c .before .message-fits .result) (c .if3 .left))

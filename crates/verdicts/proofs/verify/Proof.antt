@@ -5,16 +5,17 @@ use borrow.Author.Tests.{not-true, not-false}
 use mathlib.Core.Path.{_≡_, sym, _∙_}
 use mathlib.Core.Bool.{true}
 use mathlib.Core.List.{List}
+use Prim.Native.Nat.{_≤_}
 use Rattle.settings.specs.Rules.{Rule}
 use Rattle.settings.specs.Settings.{Parameters, parametersOf}
 use Rattle.lova.specs.Answers.{verdictOf, Outcome}
 use Rattle.lova.specs.Stored.{Instance, Message}
 use Rattle.lova.specs.Calls.{ProperVerdict, Rebuilt}
-use Rattle.lova.specs.Verdict.{verdictRules, diagonalsHold, firstHolds, secondHolds, foldedInstance, verdictBy, verdict}
+use Rattle.lova.specs.Verdict.{verdictRules, judgedIn, verdictIn}
 use Rattle.lova.proofs.Refusals.{verdict-proper}
-use Rattle.lova.proofs.Rebuilding.{rebuilt}
+use Rattle.lova.proofs.Rebuilding.{rebuilt, rebuilt-accepted}
+use Rattle.lova.proofs.Computed.{diagonalsOnce, firstOnce, secondOnce, long-answer, norm-answer, commitment-answer, yes-answer}
 use Rattle.lova.proofs.WaysOut.{out-by-setting, out-by-own, none-applied, out-at-end}
-use Rattle.verdicts.proofs.Verifying.{fold-asks, long-answer, norm-answer, commitment-answer, yes-answer}
 use Rattle.verdicts.proofs.verify.Statement.{statement}
 use Rattle.verdicts.proofs.verify.Tie as tie
 
@@ -33,10 +34,10 @@ module _ (s : tie.Start) where
   out = record { T = s .args .t .now; D = s .args .d .now }
 
   abbrev rules : Parameters → List Rule
-  rules p = verdictRules p first second message (s .args .c .now) out
+  rules p = verdictRules p (s .args .profile) first second message (s .args .c .now) out
 
   abbrev answer : Parameters → Outcome Instance
-  answer p = verdictBy (diagonalsHold p first second) (firstHolds p first second message) (secondHolds p first second message) out (foldedInstance p message (s .args .c .now))
+  answer p = judgedIn p (s .args .profile) first second message (s .args .c .now) out
 
 -- the entry, and the setting that was built anew
 abbrev start : tie.After-rebuilt → tie.Start
@@ -52,7 +53,7 @@ rebuilt-requires : tie.Need-rebuilt-requires
 rebuilt-requires c κs = search needs
 
 returns : tie.Need-returns
-unfolding verdict verdictOf
+unfolding verdictIn verdictOf
 returns c =
     let n = c .before in
     let s = start n in
@@ -75,7 +76,7 @@ same-length-2 : tie.Need-same-length-2
 same-length-2 c = search needs
 
 returns-2 : tie.Need-returns-2
-unfolding verdict verdictOf
+unfolding verdictIn verdictOf
 returns-2 c =
     let w = c .before in
     let e = w .before .before .before .before in
@@ -87,18 +88,18 @@ returns-2 c =
 proper : (c : tie.Else2) →
     let n = new-at c in
     let s = start n in
-    ProperVerdict (anew n) (first s) (second s) (message s) (s .args .c .now) (out s)
+    ProperVerdict (anew n) (s .args .profile) (first s) (second s) (message s) (s .args .c .now) (out s)
 proper c =
     let n = new-at c in
     let s = start n in
-    verdict-proper (anew n) (first s) (second s) (message s) (s .args .c .now) (out s) .0
+    verdict-proper (anew n) (s .args .profile) (first s) (second s) (message s) (s .args .c .now) (out s) .0
     (none-applied (rules s) (out s) (answer s) (parametersOf (s .args .setting)) (n .rebuilt .result) (n .rebuilt .ensures) (else-1 c .if1 .left) (c .before .verdict-refusal .result) (c .before .verdict-refusal .ensures) (c .if2 .left))
 
 answers : (c : tie.Else2) →
     let n = new-at c in
     let s = start n in
-    answer s (anew n) ≡ verdict (parametersOf (s .args .setting)) (first s) (second s) (message s) (s .args .c .now) (out s)
-unfolding verdict
+    answer s (anew n) ≡ verdictIn (parametersOf (s .args .setting)) (s .args .profile) (first s) (second s) (message s) (s .args .c .now) (out s)
+unfolding verdictIn
 answers c =
     let n = new-at c in
     let s = start n in
@@ -118,44 +119,27 @@ diagonals-hold-requires : tie.Need-diagonals-hold-requires
 diagonals-hold-requires c κs = let l = proper c .lengths in (l .0 .1, l .1 .1)
 
 -- what each test's outcome says
-diagonals-are : (c : tie.After-diagonals-hold) →
-    let n = new-at (c .before) in
-    let s = start n in
-    diagonalsHold (anew n) (first s) (second s) ≡ c .diagonals-hold .result
-unfolding diagonalsHold
-diagonals-are c = sym (c .diagonals-hold .ensures)
-
-first-is : (c : tie.After-norm-holds) →
-    let n = new-at (else-2 (c .before)) in
-    let s = start n in
-    firstHolds (anew n) (first s) (second s) (message s) ≡ c .norm-holds .result
-unfolding firstHolds
-first-is c = sym (c .norm-holds .ensures)
-
-second-is : (c : tie.After-commitment-holds) →
-    let n = new-at (else-2 (else-3 (c .before))) in
-    let s = start n in
-    secondHolds (anew n) (first s) (second s) (message s) ≡ c .commitment-holds .result
-unfolding secondHolds
-second-is c = sym (c .commitment-holds .ensures)
-
 diagonals-passed : (c : tie.Else3) →
     let n = new-at (else-2 c) in
     let s = start n in
-    diagonalsHold (anew n) (first s) (second s) ≡ true
-diagonals-passed c = diagonals-are (c .before) ∙ not-false _ (c .if3 .left)
+    diagonalsOnce (anew n) (s .args .profile) (first s) (second s) ≡ true
+diagonals-passed c = sym (c .before .diagonals-hold .ensures) ∙ not-false _ (c .if3 .left)
 
 first-passed : (c : tie.Else4) →
     let n = new-at (else-2 (else-3 c)) in
     let s = start n in
-    firstHolds (anew n) (first s) (second s) (message s) ≡ true
-first-passed c = first-is (c .before) ∙ not-false _ (c .if4 .left)
+    firstOnce (anew n) (s .args .profile) (first s) (second s) (message s) ≡ true
+first-passed c = sym (c .before .norm-holds .ensures) ∙ not-false _ (c .if4 .left)
 
 second-passed : (c : tie.Else5) →
     let n = new-at (else-2 (else-3 (else-4 c))) in
     let s = start n in
-    secondHolds (anew n) (first s) (second s) (message s) ≡ true
-second-passed c = second-is (c .before) ∙ not-false _ (c .if5 .left)
+    secondOnce (anew n) (s .args .profile) (first s) (second s) (message s) ≡ true
+second-passed c = sym (c .before .commitment-holds .ensures) ∙ not-false _ (c .if5 .left)
+
+-- there is a column
+some-column : (c : tie.Else2) → 1 ≤ anew (new-at c) .t
+some-column c = rebuilt-accepted (new-at c .rebuilt .result .setting) (again (else-1 c)) .t-low
 
 same-length-3 : tie.Need-same-length-3
 same-length-3 c = search needs
@@ -169,7 +153,7 @@ returns-3 c =
     let e = c .before .before in
     let n = new-at e in
     let s = start n in
-    long-answer (n .rebuilt .result .setting) (again (else-1 e)) (first s) (second s) (message s) (s .args .c .now) (out s) (proper e) (diagonals-are (c .before) ∙ not-true _ (c .if3 .taken))
+    long-answer (anew n) (s .args .profile) (first s) (second s) (message s) (s .args .c .now) (out s) (some-column e) (sym (c .before .diagonals-hold .ensures) ∙ not-true _ (c .if3 .taken))
     ∙ answers e
 
 norm-holds-requires : tie.Need-norm-holds-requires
@@ -191,7 +175,7 @@ returns-4 c =
     let e = else-2 w in
     let n = new-at e in
     let s = start n in
-    norm-answer (n .rebuilt .result .setting) (again (else-1 e)) (first s) (second s) (message s) (s .args .c .now) (out s) (proper e) (diagonals-passed w) (first-is (c .before) ∙ not-true _ (c .if4 .taken))
+    norm-answer (anew n) (s .args .profile) (first s) (second s) (message s) (s .args .c .now) (out s) (some-column e) (diagonals-passed w) (sym (c .before .norm-holds .ensures) ∙ not-true _ (c .if4 .taken))
     ∙ answers e
 
 commitment-holds-requires : tie.Need-commitment-holds-requires
@@ -214,15 +198,14 @@ returns-5 c =
     let e = else-2 w in
     let n = new-at e in
     let s = start n in
-    commitment-answer (n .rebuilt .result .setting) (again (else-1 e)) (first s) (second s) (message s) (s .args .c .now) (out s) (proper e) (diagonals-passed w) (first-passed f) (second-is (c .before) ∙ not-true _ (c .if5 .taken))
+    commitment-answer (anew n) (s .args .profile) (first s) (second s) (message s) (s .args .c .now) (out s) (some-column e) (diagonals-passed w) (first-passed f) (sym (c .before .commitment-holds .ensures) ∙ not-true _ (c .if5 .taken))
     ∙ answers e
 
-fold-instance-requires : tie.Need-fold-instance-requires
-fold-instance-requires c κs =
+write-folded-requires : tie.Need-write-folded-requires
+write-folded-requires c κs =
     let e = else-2 (else-3 (else-4 (c .before .before))) in
-    let n = new-at e in
-    let s = start n in
-    fold-asks (n .rebuilt .result .setting) (again (else-1 e)) (first s) (second s) (message s) (s .args .c .now) (out s) (proper e)
+    let l = proper e .lengths in
+    ((again (else-1 e), l .2 .1, l .2 .2, l .3, l .4 .0, l .4 .1), proper e .entries)
 
 same-length-9 : tie.Need-same-length-9
 same-length-9 c = search needs
@@ -239,8 +222,8 @@ returns-6 c =
     let e = else-2 w in
     let n = new-at e in
     let s = start n in
-    let folded = c .before .before .before .fold-instance .ensures in
-    yes-answer (n .rebuilt .result .setting) (again (else-1 e)) (first s) (second s) (message s) (s .args .c .now) (out s) (proper e) (diagonals-passed w) (first-passed f) (second-passed last) _ _ (folded .0) (folded .1)
+    let folded = c .before .before .before .write-folded .ensures in
+    yes-answer (anew n) (s .args .profile) (first s) (second s) (message s) (s .args .c .now) (out s) (some-column e) (diagonals-passed w) (first-passed f) (second-passed last) _ _ (folded .0) (folded .1)
     ∙ answers e
 
 pub verify-spec : {M : Type 1} → statement M
@@ -265,7 +248,7 @@ verify-spec =
     same-length-7
     same-length-8
     returns-5
-    fold-instance-requires
+    write-folded-requires
     same-length-9
     same-length-10
     returns-6)

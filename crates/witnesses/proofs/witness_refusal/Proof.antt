@@ -1,17 +1,19 @@
 -- `witnesses::witness_refusal` meets its contract: its tests are the rules, in their order.
 use borrow.Author.Needs.{needs}
 use mathlib.Core.Path.{_≡_, sym, _∙_, ap}
-use Prim.Native.Nat.{ℕ}
+use Prim.Native.Nat.{ℕ, _+_, _*_}
+use native.Mathlib.Omega.{arith}
 use lib.Dec.{leb}
 use Rattle.matrices.specs.Tables.{entry, signed}
-use Rattle.settings.specs.Settings.{parametersOf, NOf, hOf}
-use Rattle.lova.specs.Stored.{matrixS~}
+use Rattle.settings.specs.Settings.{parametersOf, hOf}
+use Rattle.lova.specs.Stored.{columnsOf, sentS~}
 use Rattle.lova.specs.Tests.{every, areTernary, bounded}
 use Rattle.lova.specs.Calls.{WitnessLengths}
 use Rattle.lova.specs.Witness.{witnessRules}
 use Rattle.lova.proofs.Refusals.{witnessLens}
-use Rattle.lova.proofs.Rebuilding.{N-is}
+use Rattle.lova.proofs.Rebuilding.{rebuilt-accepted, N-is}
 use Rattle.lova.proofs.Numbers.{true-T, failed-test, passed-test, gives-number, gives-later, gives-none}
+use Rattle.lova.proofs.Widths.{right-few, wide-of, wide-few}
 use Rattle.witnesses.proofs.witness_refusal.Statement.{statement}
 use Rattle.witnesses.proofs.witness_refusal.Tie as tie
 
@@ -25,10 +27,10 @@ returns c = gives-number _ 7 _ (sym (c .before .witness-lengths .ensures) ∙ fa
 -- the stated lengths, once their test has passed
 lengths : (c : tie.Else1) →
     let a = c .before .before .before .args in
-    WitnessLengths (parametersOf (a .setting)) (a .ss .now) (a .c .now) (a .s .now)
+    WitnessLengths (parametersOf (a .setting)) (a .profile) (a .ss .now) (a .c .now) (a .s .now)
 lengths c =
     let a = c .before .before .before .args in
-    witnessLens (parametersOf (a .setting)) (a .ss .now) (a .c .now) (a .s .now) .says .0
+    witnessLens (parametersOf (a .setting)) (a .profile) (a .ss .now) (a .c .now) (a .s .now) .says .0
     (true-T _ (sym (c .before .witness-lengths .ensures) ∙ passed-test _ (c .if1 .left)))
 
 are-ternary-requires : tie.Need-are-ternary-requires
@@ -36,7 +38,7 @@ are-ternary-requires c κs =
     let s = c .before .before .before in
     rw (N-is (s .args .setting) (s .pre)) (lengths c .1)
 
--- the two tests of values, with N for the setting's own columns
+-- the test of the bytes, with N for the setting's own columns
 bytes-are : (c : tie.After-are-ternary) →
     let a = c .before .before .before .before .args in
     c .are-ternary .result ≡ areTernary (parametersOf (a .setting)) (a .c .now)
@@ -52,25 +54,51 @@ returns-2 c =
     let e = c .before .before in
     gives-later _ 7 _ 9 (sym (e .before .witness-lengths .ensures) ∙ passed-test _ (e .if1 .left)) (gives-number _ 9 _ (sym (bytes-are (c .before)) ∙ failed-test _ (c .if2 .taken)))
 
+-- past the bytes, the columns of S~
+abbrev start : tie.After-right → tie.Start
+start c = c .before .before .before .before .before .before
+
+wide : (c : tie.After-right) →
+    let a = start c .args in
+    (a .setting .t + c .right .result) * a .setting .k ≡ columnsOf (parametersOf (a .setting)) (a .profile)
+wide c =
+    let s = start c in
+    wide-of (s .args .setting) (s .pre) (s .args .profile) (c .right .result) (c .right .ensures)
+
+right-requires : tie.Need-right-requires
+right-requires c κs = search needs
+
+add-wide : tie.Need-add-wide
+add-wide c =
+    let s = start (c .before) in
+    omega (arith, rebuilt-accepted (s .args .setting) (s .pre) .t-high, right-few (s .args .setting) (s .pre) (s .args .profile) (c .before .right .result) (c .before .right .ensures))
+
+mul-wide : tie.Need-mul-wide
+mul-wide c =
+    let r = c .before .before in
+    let s = start r in
+    omega (arith, wide-few (s .args .setting) (s .pre) (s .args .profile) (r .right .result) (r .right .ensures))
+
+abbrev counted : tie.After-entries-within → tie.After-right
+counted c = c .before .before .before .before
+
 entries-within-requires : tie.Need-entries-within-requires
 entries-within-requires c κs =
-    let e = c .before .before .before in
-    let s = e .before .before .before in
-    rw (N-is (s .args .setting) (s .pre)) (lengths e .0)
+    let r = c .before .before .before in
+    rw (wide r) (lengths (r .before .before .before) .0)
 
 entries-are : (c : tie.After-entries-within) →
-    let a = c .before .before .before .before .before .before .before .args in
+    let a = start (counted c) .args in
     let p = parametersOf (a .setting) in
-    c .entries-within .result ≡ bounded (p .m) (NOf p) (hOf p) (matrixS~ p .read (a .ss .now))
+    c .entries-within .result ≡ bounded (p .m) (columnsOf p (a .profile)) (hOf p) (sentS~ p (a .profile) .read (a .ss .now))
 entries-are c =
-    let s = c .before .before .before .before .before .before .before in
-    let a = s .args in
-    c .entries-within .ensures ∙ ap (λ (N : ℕ). bounded (a .setting .m) N (hOf (parametersOf (a .setting))) (signed N (a .ss .now))) (N-is (a .setting) (s .pre))
+    let a = start (counted c) .args in
+    c .entries-within .ensures ∙ ap (λ (N : ℕ). bounded (a .setting .m) N (hOf (parametersOf (a .setting))) (signed N (a .ss .now))) (wide (counted c))
 
 returns-3 : tie.Need-returns-3
 unfolding witnessRules
 returns-3 c =
-    let v = c .before .before .before in
+    let v = counted (c .before) .before in
     let e = v .before .before in
     gives-later _ 7 _ 11 (sym (e .before .witness-lengths .ensures) ∙ passed-test _ (e .if1 .left))
     (gives-later _ 9 _ 11 (sym (bytes-are (v .before)) ∙ passed-test _ (v .if2 .left)) (gives-number _ 11 _ (sym (entries-are (c .before)) ∙ failed-test _ (c .if3 .taken))))
@@ -78,7 +106,7 @@ returns-3 c =
 returns-4 : tie.Need-returns-4
 unfolding witnessRules
 returns-4 c =
-    let v = c .before .before .before in
+    let v = counted (c .before) .before in
     let e = v .before .before in
     gives-later _ 7 _ 0 (sym (e .before .witness-lengths .ensures) ∙ passed-test _ (e .if1 .left))
     (gives-later _ 9 _ 0 (sym (bytes-are (v .before)) ∙ passed-test _ (v .if2 .left))
@@ -92,6 +120,9 @@ witness-refusal-spec =
     returns
     are-ternary-requires
     returns-2
+    right-requires
+    add-wide
+    mul-wide
     entries-within-requires
     returns-3
     returns-4)

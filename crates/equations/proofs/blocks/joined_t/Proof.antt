@@ -1,4 +1,4 @@
--- `equations::blocks::joined_t` meets its contract: column j is one of t1's, or column j - cols of t2.
+-- `equations::blocks::joined_t` meets its contract: column j is one of t1's, or column j - t of t2.
 use mathlib.Core.Path.{sym}
 use Prim.Native.Nat.{_+_, _-_, _*_, _<_}
 use native.Mathlib.Omega.{arith}
@@ -9,10 +9,10 @@ use Rattle.equations.proofs.blocks.joined_t.Statement.{statement}
 use Rattle.equations.proofs.blocks.joined_t.Tie as tie
 
 -- the places that are read are within t1 and t2
-left : (c : tie.Then1) → let a = c .before .args in a .i * a .cols + a .j < a .rows * a .cols
+left : (c : tie.Then1) → let a = c .before .args in a .i * a .t + a .j < a .rows * a .t
 left c = digits-lt (c .before .pre .2) (c .if1 .taken)
 
-right : (c : tie.Else1) → let a = c .before .args in a .i * a .cols + (a .j - a .cols) < a .rows * a .cols
+right : (c : tie.Else1) → let a = c .before .args in a .i * a .right + (a .j - a .t) < a .rows * a .right
 right c = digits-lt (c .before .pre .2) (omega arith)
 
 mul-result : tie.Need-mul-result
@@ -40,10 +40,10 @@ shared-slice-read-result-2 : tie.Need-shared-slice-read-result-2
 shared-slice-read-result-2 c = omega (arith, right (c .before))
 
 returns : tie.Need-returns
-returns c = let a = c .before .before .args in sym (beside-left (a .cols) (unsigned (a .cols) (a .t1 .now)) (unsigned (a .cols) (a .t2 .now)) (a .i) (a .j) (c .before .if1 .taken))
+returns c = let a = c .before .before .args in sym (beside-left (a .t) (unsigned (a .t) (a .t1 .now)) (unsigned (a .right) (a .t2 .now)) (a .i) (a .j) (c .before .if1 .taken))
 
 returns-2 : tie.Need-returns-2
-returns-2 c = let a = c .before .before .args in sym (beside-right (a .cols) (unsigned (a .cols) (a .t1 .now)) (unsigned (a .cols) (a .t2 .now)) (a .i) (a .j) (omega arith))
+returns-2 c = let a = c .before .before .args in sym (beside-right (a .t) (unsigned (a .t) (a .t1 .now)) (unsigned (a .right) (a .t2 .now)) (a .i) (a .j) (omega arith))
 
 pub joined-t-spec : {M : Type 1} → statement M
 joined-t-spec =

@@ -68,21 +68,21 @@ start c = c .before .before .before .before .before .before .before .before .bef
 
 abbrev left : tie.After-message → Prepared
 left c = record {
-  message = record { «V» = c .message .last .1 .1 .1 .1 .0; T~ = c .message .last .1 .1 .1 .1 .1 .0; D~ = c .message .last .1 .1 .1 .1 .1 .1 .0 };
-  S~ = c .message .last .1 .1 .1 .1 .1 .1 .1 .0;
+  message = record { «V» = c .message .last .1 .1 .1 .1 .1 .0; T~ = c .message .last .1 .1 .1 .1 .1 .1 .0; D~ = c .message .last .1 .1 .1 .1 .1 .1 .1 .0 };
+  S~ = c .message .last .1 .1 .1 .1 .1 .1 .1 .1 .0;
 }
 
 V-back : (c : tie.After-message) → Back (matrixV (p (start c)) .size) 4 (pos 0) (left c .message .«V»)
-V-back c = back _ 4 (pos 0) _ (big (start c) .V-high) (c .message .kept .1 .1 .1 .1 .0)
+V-back c = back _ 4 (pos 0) _ (big (start c) .V-high) (c .message .kept .1 .1 .1 .1 .1 .0)
 
 T~-back : (c : tie.After-message) → Back (p (start c) .n * N (start c)) 256 0 (left c .message .T~)
-T~-back c = back _ 256 0 _ (T~-high (start c)) (c .message .kept .1 .1 .1 .1 .1 .0)
+T~-back c = back _ 256 0 _ (T~-high (start c)) (c .message .kept .1 .1 .1 .1 .1 .1 .0)
 
 D~-back : (c : tie.After-message) → Back (N (start c) * N (start c)) 1024 (pos 0) (left c .message .D~)
-D~-back c = back _ 1024 (pos 0) _ (D~-high (start c)) (c .message .kept .1 .1 .1 .1 .1 .1 .0)
+D~-back c = back _ 1024 (pos 0) _ (D~-high (start c)) (c .message .kept .1 .1 .1 .1 .1 .1 .1 .0)
 
 S~-back : (c : tie.After-message) → Back (p (start c) .m * N (start c)) 512 (pos 0) (left c .S~)
-S~-back c = back _ 512 (pos 0) _ (S~-high (start c)) (c .message .kept .1 .1 .1 .1 .1 .1 .1 .0)
+S~-back c = back _ 512 (pos 0) _ (S~-high (start c)) (c .message .kept .1 .1 .1 .1 .1 .1 .1 .1 .0)
 
 said : (c : tie.After-message) →
     let s = start c in
@@ -165,13 +165,13 @@ fold-answer-requires : tie.Need-fold-answer-requires
 fold-answer-requires c κs = tt
 
 same-length : tie.Need-same-length
-same-length c = c .before .before .before .before .verify .kept .1 .1 .1 .1 .1 .1 .1 .1 .1 .0
+same-length c = c .before .before .before .before .verify .kept .1 .1 .1 .1 .1 .1 .1 .1 .1 .1 .0
 
 same-length-2 : tie.Need-same-length-2
-same-length-2 c = c .before .before .before .before .verify .kept .1 .1 .1 .1 .1 .1 .1 .1 .1 .1 .0
+same-length-2 c = c .before .before .before .before .verify .kept .1 .1 .1 .1 .1 .1 .1 .1 .1 .1 .1 .0
 
 same-length-3 : tie.Need-same-length-3
-same-length-3 c = c .before .before .before .before .before .before .before .before .before .before .before .fold-witness .kept .1 .1 .1 .0
+same-length-3 c = c .before .before .before .before .before .before .before .before .before .before .before .fold-witness .kept .1 .1 .1 .1 .0
 
 returns : tie.Need-returns
 returns c =
@@ -180,7 +180,7 @@ returns c =
     let v = c .before .before .before .before .verify in
     let s = start m in
     calls-end (p s) (s .args .a .now) (first s) (second s) (s .args .c .now) (out s)
-    (ends (answerOf (m .message .result)) (left m)) (ends (answerOf (f .result)) (f .last .1 .1 .1 .0)) (ends (verdictOf (v .result)) (record { T = v .last .1 .1 .1 .1 .1 .1 .1 .1 .1 .0; D = v .last .1 .1 .1 .1 .1 .1 .1 .1 .1 .1 .0 })) _
+    (ends (answerOf (m .message .result)) (left m)) (ends (answerOf (f .result)) (f .last .1 .1 .1 .1 .0)) (ends (verdictOf (v .result)) (record { T = v .last .1 .1 .1 .1 .1 .1 .1 .1 .1 .1 .0; D = v .last .1 .1 .1 .1 .1 .1 .1 .1 .1 .1 .1 .0 })) _
     (said m)
     (f .ensures ∙ ap (λ (x : List ℤ). witness (p s) x (s .args .c .now) (s .args .s .now)) (S~-back m .same))
     (v .ensures ∙ ap (λ (x : Message). verdict (p s) (first s .instance) (second s .instance) x (s .args .c .now) (out s .instance)) (message-same _ _ _ _ _ _ (V-back m .same) (T~-back m .same) (D~-back m .same)))

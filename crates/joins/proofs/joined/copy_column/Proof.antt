@@ -2,7 +2,6 @@
 use borrow.Author.Needs.{needs}
 use Prim.Native.Nat.{_+_, _-_, _*_, _<_}
 use native.Mathlib.Omega.{arith}
-use lib.ListN.{length}
 use lib.IntN.{pos}
 use lib.Arith.{digits-lt}
 use mir.Syntax.{w64}
@@ -13,16 +12,16 @@ use Rattle.joins.proofs.joined.copy_column.Statement.{statement}
 use Rattle.joins.proofs.joined.copy_column.Tie as tie
 
 abbrev Inv-loop : tie.InvT-loop
-Inv-loop x cols i out₀ j₀ out j = Filled cols (λ j. signed cols x j i) (pos 0) j out
+Inv-loop x rows cols i out₀ j₀ out j = Filled rows (λ j. signed cols x j i) (pos 0) j out
 
 abbrev μ-loop : tie.MeasureT-loop
-μ-loop x cols i out₀ j₀ out j = cols - j
+μ-loop x rows cols i out₀ j₀ out j = rows - j
 
 loop-holds : tie.Need-loop-holds Inv-loop μ-loop
 loop-holds c = filled-none _ _ _ _ (c .pre .2)
 
 -- the number that a turn reads is within x
-cell : (c : tie.In-loop Inv-loop μ-loop) → let a = c .before .before .args in c .before .loop .j * a .cols + a .i < a .cols * a .cols
+cell : (c : tie.In-loop Inv-loop μ-loop) → let a = c .before .before .args in c .before .loop .j * a .cols + a .i < a .rows * a .cols
 cell c = digits-lt (c .loop-test .taken) (c .before .before .pre .1)
 
 mul-z : tie.Need-mul-z Inv-loop μ-loop
@@ -53,7 +52,7 @@ loop-again : tie.Need-loop-again Inv-loop μ-loop
 loop-again c =
     let l = c .before .before .loop in
     let a = c .before .before .before .args in
-    filled-more (a .cols) (λ j. signed (a .cols) (a .x .now) j (a .i)) (pos 0) (l .j) (l .out) _ (c .before .loop-test .taken) (toZ-ofZ w64 _ (record { sfits = c .z .given })) (l .inv)
+    filled-more (a .rows) (λ j. signed (a .cols) (a .x .now) j (a .i)) (pos 0) (l .j) (l .out) _ (c .before .loop-test .taken) (toZ-ofZ w64 _ (record { sfits = c .z .given })) (l .inv)
 
 same-length : tie.Need-same-length Inv-loop μ-loop
 same-length c = search needs
@@ -61,7 +60,7 @@ same-length c = search needs
 returns : tie.Need-returns Inv-loop μ-loop
 returns c =
     let a = c .before .before .args in
-    filled-all (a .cols) (λ j. signed (a .cols) (a .x .now) j (a .i)) (pos 0) (c .before .loop .j) (c .before .loop .out) (omega arith) (c .before .loop .inv)
+    filled-all (a .rows) (λ j. signed (a .cols) (a .x .now) j (a .i)) (pos 0) (c .before .loop .j) (c .before .loop .out) (omega arith) (c .before .loop .inv)
 
 pub copy-column-spec : {M : Type 1} → statement M
 copy-column-spec =

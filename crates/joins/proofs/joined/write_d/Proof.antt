@@ -12,9 +12,11 @@ use Rattle.integers.proofs.Lists.{two-parts}
 use Rattle.matrices.specs.Matrices.{Matrix, transposed}
 use Rattle.matrices.specs.Tables.{table, signed}
 use Rattle.matrices.proofs.Tables.{length-table}
+use Rattle.lova.specs.Stored.{rightFor}
 use Rattle.lova.specs.Fold.{beside, blocks}
 use Rattle.lova.proofs.Blocks.{above-upper, above-lower}
 use Rattle.lova.proofs.Rebuilding.{rebuilt-accepted}
+use Rattle.joins.specs.Columns.{spread, spreadBoth}
 use Rattle.joins.proofs.Halves.{tables-above}
 use Rattle.joins.proofs.joined.write_d.Statement.{statement}
 use Rattle.joins.proofs.joined.write_d.Tie as tie
@@ -64,7 +66,7 @@ write-lower-requires c κs =
     let u = c .before .before .write-upper in (
       s .pre .3,
       s .pre .4,
-      simp (length-take, length-drop, length-append) (omega (arith, u .kept .1 .1 .1 .0, upper-long t (s .args .out .now) (s .pre .1), s .pre .1, halves t)),
+      simp (length-take, length-drop, length-append) (omega (arith, u .kept .1 .1 .1 .1 .0, upper-long t (s .args .out .now) (s .pre .1), s .pre .1, halves t)),
       omega (arith, narrow s),
     )
 
@@ -75,12 +77,15 @@ returns : tie.Need-returns
 returns c =
     let a = c .before .before .before .before .before .before .args in
     let t = a .setting .t in
+    let right = rightFor t (a .profile) in
     let u = c .before .before .before .before .write-upper in
-    let X : Matrix = beside t (signed t (a .d1 .now)) (signed t (a .v .now)) in
-    let Y : Matrix = beside t (transposed (signed t (a .v .now))) (signed t (a .d2 .now)) in
-    let Z : Matrix = blocks t (signed t (a .d1 .now)) (signed t (a .v .now)) (signed t (a .d2 .now)) in
+    let E : Matrix = spread (a .profile) (signed right (a .v .now)) in
+    let F : Matrix = spreadBoth (a .profile) (signed right (a .d2 .now)) in
+    let X : Matrix = beside t (signed t (a .d1 .now)) E in
+    let Y : Matrix = beside t (transposed E) F in
+    let Z : Matrix = blocks t (signed t (a .d1 .now)) E F in
     let twice : 2 * t ≡ t + t = omega arith in
-    two-parts (t * (2 * t)) (a .out .now) (u .last .1 .1 .1 .0) (c .before .write-lower .last .1 .1 .1 .0) (ap length (u .ensures) ∙ length-table t (2 * t) X)
+    two-parts (t * (2 * t)) (a .out .now) (u .last .1 .1 .1 .1 .0) (c .before .write-lower .last .1 .1 .1 .1 .0) (ap length (u .ensures) ∙ length-table t (2 * t) X)
     ∙ ap₂ _++_ (u .ensures) (c .before .write-lower .ensures)
     ∙ tables-above (pos 0) t t (2 * t) X Y Z (λ i j h. above-upper t X Y i j h) (λ i j h. above-lower t X Y i j h)
     ∙ ap (λ (n : ℕ). table n (2 * t) Z) (sym twice)

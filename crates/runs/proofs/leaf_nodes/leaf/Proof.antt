@@ -31,13 +31,13 @@ abbrev start : tie.After-commit → tie.Start
 start c = c .before .before .before .before .before .before .before
 
 abbrev left : tie.After-commit → Instance
-left c = record { T = c .commit .last .1 .1 .1 .0; D = c .commit .last .1 .1 .1 .1 .0 }
+left c = record { T = c .commit .last .1 .1 .1 .1 .0; D = c .commit .last .1 .1 .1 .1 .1 .0 }
 
 T-back : (c : tie.After-commit) → Back (matrixT (p (start c)) .size) 16 0 (left c .T)
-T-back c = back _ 16 0 _ (big (start c) .T-high) (c .commit .kept .1 .1 .1 .0)
+T-back c = back _ 16 0 _ (big (start c) .T-high) (c .commit .kept .1 .1 .1 .1 .0)
 
 D-back : (c : tie.After-commit) → Back (matrixD (p (start c)) .size) 4 (pos 0) (left c .D)
-D-back c = back _ 4 (pos 0) _ (big (start c) .D-high) (c .commit .kept .1 .1 .1 .1 .0)
+D-back c = back _ 4 (pos 0) _ (big (start c) .D-high) (c .commit .kept .1 .1 .1 .1 .1 .0)
 
 made : (c : tie.After-commit) (x : Answer) → c .commit .result ≡ x →
     let s = start c in

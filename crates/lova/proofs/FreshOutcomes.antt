@@ -1,0 +1,123 @@
+-- Each outcome of a fresh call is the general call's, with all that is fresh repeated t times: answers, refusals and outputs.
+use mathlib.Core.Path.{_≡_, refl, sym, _∙_, ap, ap₂}
+use mathlib.Core.Logic.{_↔_}
+use mathlib.Core.Bool.{Bool, true, false, not, _&&_}
+use mathlib.Core.List.{List, [], _∷_}
+use Prim.Native.Nat.{ℕ, zero, suc}
+use native.Mathlib.Omega.{arith}
+use lib.Dec.{T}
+use lib.IntN.{ℤ}
+use Rattle.integers.proofs.Tests.{same-test}
+use Rattle.matrices.specs.Matrices.{Matrix}
+use Rattle.matrices.proofs.Tables.{length-table}
+use Rattle.settings.specs.Rules.{Rule, _gives_, firstOf}
+use Rattle.settings.specs.Settings.{Parameters, settingRefusal, hOf, HOf}
+use Rattle.settings.proofs.Accepted.{accepted}
+use Rattle.lova.specs.declared.Profile.the-variants.{General, Fresh}
+use Rattle.lova.specs.Answers.{afterSetting, done, Outcome, ends, unlessRefused}
+use Rattle.lova.specs.Stored.{Instance, Message, Prepared, sentS~, sentD~, matrixS~, matrixD~}
+use Rattle.lova.specs.Tests.{shortRight, areTernary, bounded}
+use Rattle.lova.specs.Calls.{Bounded, CommitLengths, JoinLengths, MessageLengths, VerdictLengths, WitnessLengths}
+use Rattle.lova.specs.Repeats.{repeatedS, repeatedInstance, repeatedV, repeatedMessage, repeatedS~, repeatedPrepared, expanded}
+use Rattle.lova.specs.Commit.{commitRules, commitIn}
+use Rattle.lova.specs.Join.{joinRules, joinedInstance, joinIn}
+use Rattle.lova.specs.Message.{messageRules, messageIn}
+use Rattle.lova.specs.Verdict.{verdictRules, judgedIn, verdictIn}
+use Rattle.lova.specs.Witness.{witnessRules, foldedWitness, witnessIn}
+use Rattle.lova.proofs.Tests.{short-iff, bounded-iff}
+use Rattle.lova.proofs.Refusals.{setting-decides, own-decides, commitLens, joinLens, messageLens, verdictLens, witnessLens}
+use Rattle.lova.proofs.Repeated as Repeated
+use Rattle.lova.proofs.BothProfiles as BothProfiles
+
+-- a call whose outputs are made anew
+expands : {X Y : Type 0} (g : X → Y) (r : ℕ) (before : X) (result : Outcome X) → expanded g (unlessRefused r before result) ≡ unlessRefused r (g before) (expanded g result)
+unfolding unlessRefused
+expands g zero before result = refl
+expands g (suc r) before result = refl
+
+-- a rule whose test passes is passed over
+skips : (c : Bool) (n : ℕ) (rs : List Rule) → T c → firstOf ((not c gives n) ∷ rs) ≡ firstOf rs
+unfolding firstOf
+skips true n rs h = refl
+skips false n rs h = absurd h
+
+-- own rules that agree for an accepted setting give the same number
+same-number : (p : Parameters) (own own′ : List Rule) → (settingRefusal p ≡ 0 → firstOf own ≡ firstOf own′) → firstOf (afterSetting p own) ≡ firstOf (afterSetting p own′)
+same-number p own own′ h = by (settingRefusal p) refl
+  where
+    by : (r : ℕ) → settingRefusal p ≡ r → firstOf (afterSetting p own) ≡ firstOf (afterSetting p own′)
+    by zero e = own-decides p own e ∙ h e ∙ sym (own-decides p own′ e)
+    by (suc r) e = let ne : settingRefusal p ≡ 0 → ⊥ = λ z. omega (arith, e, z) in setting-decides p own ne ∙ sym (setting-decides p own′ ne)
+
+-- 10 and 11 for fresh matrices are 10 and 11 for the repeated ones
+same-bound : (rows cols rows′ cols′ M : ℕ) (X X′ : Matrix) → Bounded rows′ cols′ M X′ ↔ Bounded rows cols M X → bounded rows cols M X ≡ bounded rows′ cols′ M X′
+same-bound rows cols rows′ cols′ M X X′ b =
+    let f = bounded-iff rows cols M X in
+    let g = bounded-iff rows′ cols′ M X′ in
+    same-test (bounded rows cols M X) (bounded rows′ cols′ M X′) (λ h. g .1 (b .1 (f .0 h))) (λ h. f .1 (b .0 (g .0 h)))
+
+module _ (p : Parameters) where
+  -- 8 for v is 8 for v repeated
+  short-same : settingRefusal p ≡ 0 → (v : List ℤ) → shortRight p Fresh v ≡ shortRight p General (repeatedS p Fresh v)
+  short-same ok v =
+      let r = Repeated.repeated-short p v (accepted p ok .t-low) in
+      same-test _ _
+      (λ h. short-iff p General (repeatedS p Fresh v) .1 (r .1 (short-iff p Fresh v .0 h 0 (omega arith))))
+      (λ h. short-iff p Fresh v .1 (λ j hj. let z : j ≡ 0 = omega arith in rw z (r .0 (short-iff p General (repeatedS p Fresh v) .0 h))))
+
+  pub commit-repeats : (A : List ℕ) (v : List ℤ) (out : Instance) → CommitLengths p Fresh A v out
+      → expanded (repeatedInstance p Fresh) (commitIn p Fresh A v out) ≡ commitIn p General A (repeatedS p Fresh v) (repeatedInstance p Fresh out)
+  unfolding commitIn commitRules
+  commit-repeats A v out l =
+      expands (repeatedInstance p Fresh) _ out _
+      ∙ ap₂ (λ (r : ℕ) (I : Instance). unlessRefused r (repeatedInstance p Fresh out) (ends done I))
+      (same-number p (commitRules p Fresh A v out) (commitRules p General A (repeatedS p Fresh v) (repeatedInstance p Fresh out)) (λ ok.
+      skips (commitLens p Fresh A v out .test) 7 _ (commitLens p Fresh A v out .says .1 l)
+      ∙ ap (λ (c : Bool). firstOf ((not c gives 8) ∷ [])) (short-same ok v)
+      ∙ sym (skips (commitLens p General A (repeatedS p Fresh v) (repeatedInstance p Fresh out) .test) 7 _
+      (commitLens p General A (repeatedS p Fresh v) (repeatedInstance p Fresh out) .says .1 (l .0, length-table _ _ _, (length-table _ _ _, length-table _ _ _))))))
+      (BothProfiles.instance-repeats p A Fresh v)
+
+  pub join-repeats : (I₁ I₂ : Instance) («V» : List ℤ) (out : Instance) → JoinLengths p Fresh I₁ I₂ «V» out
+      → joinIn p Fresh I₁ I₂ «V» out ≡ joinIn p General I₁ (repeatedInstance p Fresh I₂) (repeatedV p Fresh «V») out
+  unfolding joinIn joinRules
+  join-repeats I₁ I₂ «V» out l =
+      ap (λ (r : ℕ). unlessRefused r out (ends done (joinedInstance p I₁ (repeatedInstance p Fresh I₂) (repeatedV p Fresh «V»))))
+      (same-number p (joinRules p Fresh I₁ I₂ «V» out) (joinRules p General I₁ (repeatedInstance p Fresh I₂) (repeatedV p Fresh «V») out) (λ ok.
+      skips (joinLens p Fresh I₁ I₂ «V» out .test) 7 _ (joinLens p Fresh I₁ I₂ «V» out .says .1 l)
+      ∙ sym (skips (joinLens p General I₁ (repeatedInstance p Fresh I₂) (repeatedV p Fresh «V») out .test) 7 _
+      (joinLens p General I₁ (repeatedInstance p Fresh I₂) (repeatedV p Fresh «V») out .says .1 (l .0, (length-table _ _ _, length-table _ _ _), length-table _ _ _, l .3)))))
+
+  pub message-repeats : (A : List ℕ) (S₁ v : List ℤ) (out : Prepared) → MessageLengths p Fresh A S₁ v out
+      → expanded (repeatedPrepared p Fresh) (messageIn p Fresh A S₁ v out) ≡ messageIn p General A S₁ (repeatedS p Fresh v) (repeatedPrepared p Fresh out)
+  unfolding messageIn messageRules
+  message-repeats A S₁ v out l =
+      expands (repeatedPrepared p Fresh) _ out _
+      ∙ ap₂ (λ (r : ℕ) (o : Prepared). unlessRefused r (repeatedPrepared p Fresh out) (ends done o))
+      (same-number p (messageRules p Fresh A S₁ v out) (messageRules p General A S₁ (repeatedS p Fresh v) (repeatedPrepared p Fresh out)) (λ ok.
+      skips (messageLens p Fresh A S₁ v out .test) 7 _ (messageLens p Fresh A S₁ v out .says .1 l)
+      ∙ ap (λ (c : Bool). firstOf ((not (shortRight p General S₁ && c) gives 8) ∷ [])) (short-same ok v)
+      ∙ sym (skips (messageLens p General A S₁ (repeatedS p Fresh v) (repeatedPrepared p Fresh out) .test) 7 _
+      (messageLens p General A S₁ (repeatedS p Fresh v) (repeatedPrepared p Fresh out) .says .1 (l .0, l .1, length-table _ _ _, ((length-table _ _ _, length-table _ _ _, length-table _ _ _), length-table _ _ _))))))
+      (ap₂ (λ (M : Message) (S~ : List ℤ). record { message = M; S~ = S~ }) (BothProfiles.message-repeats p A Fresh S₁ v) (BothProfiles.witness-repeats p A Fresh S₁ v))
+
+  pub verdict-repeats : (I₁ I₂ : Instance) (M : Message) (C : List ℕ) (out : Instance) → VerdictLengths p Fresh I₁ I₂ M C out
+      → verdictIn p Fresh I₁ I₂ M C out ≡ verdictIn p General I₁ (repeatedInstance p Fresh I₂) (repeatedMessage p Fresh M) C out
+  unfolding verdictIn judgedIn verdictRules
+  verdict-repeats I₁ I₂ M C out l =
+      ap (λ (r : ℕ). unlessRefused r out (judgedIn p Fresh I₁ I₂ M C out))
+      (same-number p (verdictRules p Fresh I₁ I₂ M C out) (verdictRules p General I₁ (repeatedInstance p Fresh I₂) (repeatedMessage p Fresh M) C out) (λ ok.
+      skips (verdictLens p Fresh I₁ I₂ M C out .test) 7 _ (verdictLens p Fresh I₁ I₂ M C out .says .1 l)
+      ∙ ap (λ (c : Bool). firstOf ((not (areTernary p C) gives 9) ∷ (not c gives 10) ∷ [])) (same-bound _ _ _ _ (HOf p) (sentD~ p Fresh .read (M .D~)) (matrixD~ p .read (repeatedMessage p Fresh M .D~)) (Repeated.D~-bounds p (accepted p ok .t-low) (HOf p) M))
+      ∙ sym (skips (verdictLens p General I₁ (repeatedInstance p Fresh I₂) (repeatedMessage p Fresh M) C out .test) 7 _
+      (verdictLens p General I₁ (repeatedInstance p Fresh I₂) (repeatedMessage p Fresh M) C out .says .1 (l .0, (length-table _ _ _, length-table _ _ _), (length-table _ _ _, length-table _ _ _, length-table _ _ _), l .3, l .4)))))
+
+  pub witness-repeats : (S~ : List ℤ) (C : List ℕ) (out : List ℤ) → WitnessLengths p Fresh S~ C out
+      → witnessIn p Fresh S~ C out ≡ witnessIn p General (repeatedS~ p Fresh S~) C out
+  unfolding witnessIn witnessRules
+  witness-repeats S~ C out l =
+      ap (λ (r : ℕ). unlessRefused r out (ends done (foldedWitness p (matrixS~ p .read (repeatedS~ p Fresh S~)) C)))
+      (same-number p (witnessRules p Fresh S~ C out) (witnessRules p General (repeatedS~ p Fresh S~) C out) (λ ok.
+      skips (witnessLens p Fresh S~ C out .test) 7 _ (witnessLens p Fresh S~ C out .says .1 l)
+      ∙ ap (λ (c : Bool). firstOf ((not (areTernary p C) gives 9) ∷ (not c gives 11) ∷ [])) (same-bound _ _ _ _ (hOf p) (sentS~ p Fresh .read S~) (matrixS~ p .read (repeatedS~ p Fresh S~)) (Repeated.S~-bounds p (accepted p ok .t-low) (hOf p) S~))
+      ∙ sym (skips (witnessLens p General (repeatedS~ p Fresh S~) C out .test) 7 _ (witnessLens p General (repeatedS~ p Fresh S~) C out .says .1 (length-table _ _ _, l .1, l .2)))))

@@ -1,0 +1,80 @@
+// The prover's operations for C with a fresh second witness: one vector that stands for t equal columns. They are those
+// of `prover_c` but for the profile, and stand in a crate of their own so that the compiler makes each of them for its
+// profile.
+ghost use mathlib.Core.Path.{_≡_};
+ghost use Rattle.settings.specs.HouseList.{parameters};
+ghost use Rattle.lova.specs.declared.Profile.the-variants.{Fresh};
+ghost use Rattle.lova.specs.Lent.{instanceBefore, instanceAfter, preparedBefore, preparedAfter};
+ghost use Rattle.lova.specs.Commit.{commitIn};
+ghost use Rattle.lova.specs.Message.{messageIn};
+ghost use Rattle.lova.specs.Witness.{witnessIn};
+ghost use Rattle.codes.specs.Codes.{returned, coded};
+use lova::Profile;
+
+// Commit: writes T and D of the vector s. Refusals 1 to 8.
+#[no_mangle]
+pub extern "C" fn lova_commit_fresh(
+    n: u64,
+    m: u64,
+    t: u64,
+    b: u64,
+    bound: u64,
+    a: &[u64],
+    s: &[i64],
+    t_out: &mut [u64],
+    d_out: &mut [i64],
+) -> u8
+    ensures { λ r. ⌜ returned r (instanceAfter «t_out» «d_out»)
+        ≡ coded (commitIn (parameters n m t b bound) Fresh (now (a .entry)) (now (s .entry))
+        (instanceBefore «t_out» «d_out»)) ⌝ }
+{
+    let setting = codes::setting_of(n, m, t, b, bound);
+    let answer = commitments::commit(setting, Profile::Fresh, a, s, t_out, d_out);
+    codes::code_of_answer(answer)
+}
+
+// Message: writes V, T~, D~ and the digit witness S~ of the witness s1 and the vector s2. Refusals 1 to 8.
+#[no_mangle]
+pub extern "C" fn lova_message_fresh(
+    n: u64,
+    m: u64,
+    t: u64,
+    b: u64,
+    bound: u64,
+    a: &[u64],
+    s1: &[i64],
+    s2: &[i64],
+    v: &mut [i64],
+    tt: &mut [u64],
+    dd: &mut [i64],
+    ss: &mut [i64],
+) -> u8
+    ensures { λ r. ⌜ returned r (preparedAfter v tt dd ss)
+        ≡ coded (messageIn (parameters n m t b bound) Fresh (now (a .entry)) (now (s1 .entry)) (now (s2 .entry))
+        (preparedBefore v tt dd ss)) ⌝ }
+{
+    let setting = codes::setting_of(n, m, t, b, bound);
+    let answer = messages::message(setting, Profile::Fresh, a, s1, s2, v, tt, dd, ss);
+    codes::code_of_answer(answer)
+}
+
+// Folded witness: writes s = S' = S~ C. Refusals 1 to 7, 9 and 11.
+#[no_mangle]
+pub extern "C" fn lova_fold_witness_fresh(
+    n: u64,
+    m: u64,
+    t: u64,
+    b: u64,
+    bound: u64,
+    ss: &[i64],
+    c: &[u8],
+    s: &mut [i64],
+) -> u8
+    ensures { λ r. ⌜ returned r (now (s .exit))
+        ≡ coded (witnessIn (parameters n m t b bound) Fresh (now (ss .entry)) (now (c .entry))
+        (now (s .entry))) ⌝ }
+{
+    let setting = codes::setting_of(n, m, t, b, bound);
+    let answer = witnesses::fold_witness(setting, Profile::Fresh, ss, c, s);
+    codes::code_of_answer(answer)
+}

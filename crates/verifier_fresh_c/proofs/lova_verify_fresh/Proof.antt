@@ -1,0 +1,37 @@
+-- `verifier_fresh_c::lova_verify_fresh` meets its contract: the operation's answer and outputs are passed on.
+use borrow.Author.Needs.{needs}
+use Rattle.codes.proofs.Passing.{passed}
+use Rattle.verifier_fresh_c.proofs.lova_verify_fresh.Statement.{statement}
+use Rattle.verifier_fresh_c.proofs.lova_verify_fresh.Tie as tie
+
+setting-of-requires : tie.Need-setting-of-requires
+setting-of-requires c κs = search needs
+
+verify-requires : tie.Need-verify-requires
+verify-requires c κs = search needs
+
+code-of-verdict-requires : tie.Need-code-of-verdict-requires
+code-of-verdict-requires c κs = search needs
+
+same-length : tie.Need-same-length
+same-length c = search needs
+
+same-length-2 : tie.Need-same-length-2
+same-length-2 c = search needs
+
+returns : tie.Need-returns
+returns c =
+    let call = c .before .before .before .before in
+    let made = call .before .before .before in
+    rw (← made .setting-of .ensures) (passed (call .verify .ensures) (c .code-of-verdict .ensures))
+
+pub lova-verify-fresh-spec : {M : Type 1} → statement M
+lova-verify-fresh-spec =
+    tie.close
+    (tie.spec
+    setting-of-requires
+    verify-requires
+    code-of-verdict-requires
+    same-length
+    same-length-2
+    returns)
