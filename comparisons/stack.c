@@ -12,12 +12,15 @@ static const uint64_t settings[2][5] = {{64, 4096, 16, 3, 22876792454961}, {1, 1
 
 /* Room for the matrices of the largest setting, N = 512. */
 static uint64_t a[64 * 4096], t1[64 * 16], t2[64 * 16], tt[64 * 512], t_out[64 * 16], joined_t[64 * 32], out[35];
-static int64_t s1[4096 * 16], s2[4096 * 16], s[4096 * 16], ss[4096 * 512], dd[512 * 512];
+static int64_t s1[4096 * 16], s2[4096 * 16], s[4096 * 16], ss[4096 * 512], dd[512 * 513 / 2];
 static int64_t d1[16 * 16], d2[16 * 16], v[16 * 16], d_out[16 * 16], joined_d[32 * 32];
 static uint8_t c[512 * 16];
 
 static uint64_t n, m, t, b, bound, columns, fresh_columns;
 static uint8_t code;
+
+/* Entries of a lower triangle with so many rows. */
+static size_t triangle(size_t rows) { return rows * (rows + 1) / 2; }
 
 static void setting(void) { code = lova_setting(n, m, t, b, bound, out, 35); }
 static void listed(void) { code = lova_listed(4, out, 5); }
@@ -26,7 +29,7 @@ static void commit(void) { code = lova_commit(n, m, t, b, bound, a, n * m, s1, m
 static void message(void)
 {
     code = lova_message(n, m, t, b, bound, a, n * m, s1, m * t, s2, m * t,
-                        v, t * t, tt, n * columns, dd, columns * columns, ss, m * columns);
+                        v, t * t, tt, n * columns, dd, triangle(columns), ss, m * columns);
 }
 
 static void fold_witness(void)
@@ -43,7 +46,7 @@ static void join(void)
 static void verify(void)
 {
     code = lova_verify(n, m, t, b, bound, t1, n * t, d1, t * t, t2, n * t, d2, t * t, v, t * t,
-                       tt, n * columns, dd, columns * columns, c, columns * t, t_out, n * t, d_out, t * t);
+                       tt, n * columns, dd, triangle(columns), c, columns * t, t_out, n * t, d_out, t * t);
 }
 
 static void test_relation(void)
@@ -60,7 +63,7 @@ static void commit_fresh(void)
 static void message_fresh(void)
 {
     code = lova_message_fresh(n, m, t, b, bound, a, n * m, s1, m * t, s2, m, v, t, tt, n * fresh_columns,
-                              dd, fresh_columns * fresh_columns, ss, m * fresh_columns);
+                              dd, triangle(fresh_columns), ss, m * fresh_columns);
 }
 
 static void fold_witness_fresh(void)
@@ -77,7 +80,7 @@ static void join_fresh(void)
 static void verify_fresh(void)
 {
     code = lova_verify_fresh(n, m, t, b, bound, t1, n * t, d1, t * t, t2, n, d2, 1, v, t,
-                             tt, n * fresh_columns, dd, fresh_columns * fresh_columns, c, columns * t,
+                             tt, n * fresh_columns, dd, triangle(fresh_columns), c, columns * t,
                              t_out, n * t, d_out, t * t);
 }
 

@@ -26,13 +26,13 @@ int main(void)
     const int64_t s1[1] = {7}, s2[1] = {-5};
     const uint8_t c[10] = {1, 1, 1, 0, 0, 2, 0, 2, 0, 0};
     uint64_t t1[1], t2[1], tt[10], t[1];
-    int64_t d1[1], d2[1], v[1], dd[100], ss[10], d[1], s[1];
+    int64_t d1[1], d2[1], v[1], dd[55], ss[10], d[1], s[1];
 
     if (failed("commit", lova_commit(p[0], p[1], p[2], p[3], p[4], a, 1, s1, 1, t1, 1, d1, 1))
         || failed("commit", lova_commit(p[0], p[1], p[2], p[3], p[4], a, 1, s2, 1, t2, 1, d2, 1))
-        || failed("message", lova_message(p[0], p[1], p[2], p[3], p[4], a, 1, s1, 1, s2, 1, v, 1, tt, 10, dd, 100, ss, 10))
+        || failed("message", lova_message(p[0], p[1], p[2], p[3], p[4], a, 1, s1, 1, s2, 1, v, 1, tt, 10, dd, 55, ss, 10))
         || failed("fold_witness", lova_fold_witness(p[0], p[1], p[2], p[3], p[4], ss, 10, c, 10, s, 1))
-        || failed("verify", lova_verify(p[0], p[1], p[2], p[3], p[4], t1, 1, d1, 1, t2, 1, d2, 1, v, 1, tt, 10, dd, 100, c, 10, t, 1, d, 1))
+        || failed("verify", lova_verify(p[0], p[1], p[2], p[3], p[4], t1, 1, d1, 1, t2, 1, d2, 1, v, 1, tt, 10, dd, 55, c, 10, t, 1, d, 1))
         || failed("test_relation", lova_test_relation(p[0], p[1], p[2], p[3], p[4], a, 1, t, 1, d, 1, s, 1)))
         return 1;
 

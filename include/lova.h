@@ -4,12 +4,14 @@
  * elements it has. Matrices are stored by rows. With N = 2kt (k is what lova_setting writes first) the lengths are
  *
  *   A  n m      S  m t      T  n t      D  t t      V  t t      C  N t
- *   S~ m N      T~ n N      D~ N N      joined T  n 2t          joined D  2t 2t
+ *   S~ m N      T~ n N      D~ N (N + 1) / 2        joined T  n 2t          joined D  2t 2t
+ *
+ * D~ is symmetric, and its lower triangle alone is stored, by rows: entry (i, j), j <= i, stands at i (i + 1) / 2 + j.
  *
  * The second witness of a fold may be fresh: one vector that stands for t equal columns. For it there are the functions
  * with _fresh, in which these lengths differ:
  *
- *   vector  m   its T  n    its D  1    V  t        S~ m (kt + k)       T~ n (kt + k)       D~ (kt + k) (kt + k)
+ *   vector  m   its T  n    its D  1    V  t        S~ m (kt + k)       T~ n (kt + k)       D~ (kt + k) (kt + k + 1) / 2
  *
  * They answer as the functions without _fresh do when all that is fresh is repeated t times, and so repeated, what they
  * write is what those write.
@@ -103,7 +105,8 @@ uint8_t lova_join(uint64_t n, uint64_t m, uint64_t t, uint64_t b, uint64_t bound
 
 /* The verdict: yes (LOVA_DONE) with T' and D' where no diagonal entry of D1 or D2 is above bound and both equations hold;
  * else LOVA_LONG, LOVA_NORM or LOVA_COMMITMENT, the first that applies. Entries and bound are compared as signed numbers,
- * so a negative entry is not long. Refusals 1 to 6, 7, 9, 10. */
+ * so a negative entry is not long. Since D~ is symmetric, a D1 or D2 that is not fails the first equation. Refusals 1 to 6,
+ * 7, 9, 10. */
 uint8_t lova_verify(uint64_t n, uint64_t m, uint64_t t, uint64_t b, uint64_t bound,
                     const uint64_t *t1, size_t t1_len, const int64_t *d1, size_t d1_len,
                     const uint64_t *t2, size_t t2_len, const int64_t *d2, size_t d2_len,

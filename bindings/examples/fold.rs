@@ -1,7 +1,7 @@
 //! One fold at setting 1 with A = 3: the witnesses 7 and −5 and the specification's challenge.
 //! Prints T', D' and S'.
 
-use lova::{Refusal, Setting, Verdict};
+use lova::{triangle, Refusal, Setting, Verdict};
 
 /// The challenge 1 1 1 0 0 −1 0 −1 0 0, as bytes.
 const C: [u8; 10] = [1, 1, 1, 0, 0, 2, 0, 2, 0, 0];
@@ -21,7 +21,7 @@ fn main() -> Result<(), Refusal> {
     let (t2, d2) = instance(setting, &a, &s2)?;
 
     // The prover: N is 10.
-    let (mut v, mut tt, mut dd, mut ss) = ([0], [0; 10], [0; 100], [0; 10]);
+    let (mut v, mut tt, mut dd, mut ss) = ([0], [0; 10], [0; triangle(10)], [0; 10]);
     lova::message(setting, &a, &s1, &s2, &mut v, &mut tt, &mut dd, &mut ss)?;
     let mut s = [0];
     lova::fold_witness(setting, &ss, &C, &mut s)?;

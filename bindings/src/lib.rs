@@ -2,12 +2,14 @@
 //!
 //! Matrices are lent as slices, by rows, and nothing is allocated. A refused call, and a verdict
 //! other than yes, leaves every output as it was. The lengths are those of the specification:
-//! A is n by m, T n by t, S m by t, D and V t by t, S~ m by N, T~ n by N, D~ N by N, C N by t.
+//! A is n by m, T n by t, S m by t, D and V t by t, S~ m by N, T~ n by N, C N by t. D~, N by N, is symmetric, and its
+//! lower triangle alone is lent, N (N + 1) / 2 entries as [`triangle`] counts them: entry (i, j), j ≤ i, stands at
+//! i (i + 1) / 2 + j.
 //!
 //! A fold's second witness may be fresh: one vector that stands for t equal columns. The functions for it have
 //! `_fresh` in their names and answer as the general ones do when all that is fresh is repeated t times. The vector
-//! has m entries, its T n and its D one; V has t, S~ m (kt + k), T~ n (kt + k), D~ (kt + k) (kt + k). All other
-//! lengths are as above. At t = 1 both forms are the same.
+//! has m entries, its T n and its D one; V has t, S~ m (kt + k), T~ n (kt + k), and D~ is the triangle of kt + k rows.
+//! All other lengths are as above. At t = 1 both forms are the same.
 //!
 //! Build the archive with `bindings/archive`; `LOVA_STATICLIB` names another folder for it. The enums may
 //! get cases later, so a `match` outside this crate needs an arm `_`.
@@ -33,6 +35,16 @@ pub use setting::{write_listed, write_record, Record, Setting, POWERS, RECORD};
 use answers::{answer, membership, verdict};
 use raw::call;
 
+/// The number of entries of a lower triangle with so many rows, the diagonal included: the length of D~, and where a
+/// row with this number, counted from 0, begins in it.
+///
+/// ```
+/// assert_eq!(lova::triangle(10), 55);
+/// ```
+pub const fn triangle(rows: usize) -> usize {
+    rows * (rows + 1) / 2
+}
+
 /// Commit to a witness: A, S to T = A S modulo 2^64 and D = S-transposed S.
 ///
 /// Refusals: 1 to 6, 7, 8.
@@ -48,7 +60,7 @@ pub fn commit_fresh(setting: Setting, a: &[u64], vector: &[i64], t_out: &mut [u6
 }
 
 /// The prover's message: A, S1, S2 to V = S1-transposed S2, T~ = A S~ modulo 2^64,
-/// D~ = S~-transposed S~ and the digit witness S~, which the prover keeps.
+/// D~ = S~-transposed S~, as its lower triangle, and the digit witness S~, which the prover keeps.
 ///
 /// Refusals: 1 to 6, 7, 8.
 pub fn message(
@@ -104,7 +116,8 @@ pub fn join_fresh(
 
 /// The verdict on a message: both instances, V, T~, D~ and C to T' = T~ C modulo 2^64 and
 /// D' = C-transposed D~ C, which are written on [`Verdict::Yes`] alone. A diagonal entry of D1 or D2 above B
-/// is [`Verdict::Long`], whatever the equations say.
+/// is [`Verdict::Long`], whatever the equations say. D~ is symmetric, so that a D1 or D2 which is not fails the first
+/// equation: [`Verdict::Norm`] where nothing is long.
 ///
 /// Refusals: 1 to 6, 7, 9, 10.
 pub fn verify(

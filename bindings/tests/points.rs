@@ -1,13 +1,13 @@
 //! The specification's points, through the bindings.
 
-use lova::{Membership, Record, Refusal, Setting, Verdict, RECORD};
+use lova::{triangle, Membership, Record, Refusal, Setting, Verdict, RECORD};
 
 const ONE: Setting = Setting::unchecked(1, 1, 1, 2, 100);
 const C: [u8; 10] = [1, 1, 1, 0, 0, 2, 0, 2, 0, 0];
 
 /// V, T~, D~ and S~ of the printed fold: 7 and −5 with A = 3.
-fn printed_message() -> ([i64; 1], [u64; 10], [i64; 100], [i64; 10]) {
-    let (mut v, mut tt, mut dd, mut ss) = ([0], [0; 10], [0; 100], [0; 10]);
+fn printed_message() -> ([i64; 1], [u64; 10], [i64; triangle(10)], [i64; 10]) {
+    let (mut v, mut tt, mut dd, mut ss) = ([0], [0; 10], [0; triangle(10)], [0; 10]);
     lova::message(ONE, &[3], &[7], &[-5], &mut v, &mut tt, &mut dd, &mut ss).unwrap();
     (v, tt, dd, ss)
 }
@@ -51,6 +51,11 @@ fn commitments() {
 fn the_printed_fold() {
     let (v, tt, dd, ss) = printed_message();
     assert_eq!((v, ss), ([-35], [1, 1, 1, 0, 0, -1, 0, -1, 0, 0]));
+    for i in 0..10 {
+        for j in 0..=i {
+            assert_eq!(dd[triangle(i) + j], ss[i] * ss[j]);
+        }
+    }
     assert_eq!(judged(&dd, &tt, &C), (Ok(Verdict::Yes), 15, 25));
     assert_eq!(judged(&dd, &tt, &[0; 10]), (Ok(Verdict::Yes), 0, 0));
     let mut s = [8];
@@ -64,22 +69,37 @@ fn the_printed_fold() {
 fn other_verdicts_write_nothing() {
     let (_, tt, dd, _) = printed_message();
     let (mut products, mut commitments, mut c) = (dd, tt, C);
-    products[99] = 1;
+    products[54] = 1;
     commitments[9] = 1;
     assert_eq!(judged(&products, &commitments, &C), (Ok(Verdict::Norm), 8, 8));
     assert_eq!(judged(&dd, &commitments, &C), (Ok(Verdict::Commitment), 8, 8));
-    products[99] = 2;
+    products[54] = 2;
     assert_eq!(judged(&products, &tt, &C), (Err(Refusal::DigitProduct), 8, 8));
     c[9] = 3;
     assert_eq!(judged(&products, &tt, &c), (Err(Refusal::Challenge), 8, 8));
     assert_eq!(judged(&products, &tt, &c[1..]), (Err(Refusal::Length), 8, 8));
 }
 
+#[test]
+fn other_lengths_of_a_triangle_are_refused() {
+    let (_, tt, dd, _) = printed_message();
+    let entry = |i: usize, j: usize| dd[triangle(i.max(j)) + i.min(j)];
+    let square: Vec<i64> = (0..100).map(|at| entry(at / 10, at % 10)).collect();
+    assert_eq!(judged(&square, &tt, &C), (Err(Refusal::Length), 8, 8));
+    assert_eq!(judged(&dd[..54], &tt, &C), (Err(Refusal::Length), 8, 8));
+    for length in [54, 56, 100] {
+        let (mut v, mut tt, mut long, mut ss) = ([8], [8; 10], vec![8; length], [8; 10]);
+        let answer = lova::message(ONE, &[3], &[7], &[-5], &mut v, &mut tt, &mut long, &mut ss);
+        assert_eq!((answer, v, tt, ss), (Err(Refusal::Length), [8], [8; 10], [8; 10]));
+        assert_eq!(long, vec![8; length]);
+    }
+}
+
 /// The verdict under a bound, and T' and D' afterwards, on a fold with A = 3 in which 11 is one witness. Its message is
 /// made with B = 121, which takes 11 and has the k and N of Setting 1.
 fn with_eleven(s1: i64, s2: i64, bound: u64) -> (Result<Verdict, Refusal>, u64, i64) {
     let maker = Setting::new(1, 1, 1, 2, 121).unwrap();
-    let (mut v, mut tt, mut dd, mut ss) = ([0], [0; 10], [0; 100], [0; 10]);
+    let (mut v, mut tt, mut dd, mut ss) = ([0], [0; 10], [0; triangle(10)], [0; 10]);
     lova::message(maker, &[3], &[s1], &[s2], &mut v, &mut tt, &mut dd, &mut ss).unwrap();
     let instance = |s: i64| ([(3 * s) as u64], [s * s]);
     let ((t1, d1), (t2, d2)) = (instance(s1), instance(s2));
@@ -115,8 +135,8 @@ const TWO: Setting = Setting::unchecked(1, 1, 2, 5, 576);
 const FRESH_C: [u8; 24] = [1, 0, 0, 1, 0, 0, 0, 0, 2, 1, 0, 2, 1, 0, 0, 1, 1, 1, 1, 2, 0, 1, 2, 0];
 
 /// The outputs of a fresh message, all at this number.
-fn fresh_message(held: i64) -> ([i64; 2], [u64; 9], [i64; 81], [i64; 9]) {
-    ([held; 2], [held as u64; 9], [held; 81], [held; 9])
+fn fresh_message(held: i64) -> ([i64; 2], [u64; 9], [i64; triangle(9)], [i64; 9]) {
+    ([held; 2], [held as u64; 9], [held; triangle(9)], [held; 9])
 }
 
 #[test]
@@ -162,7 +182,7 @@ fn fresh_calls_are_refused() {
 /// The verdict on a fresh fold of zeros with another D2, D~ and C, and T' and D' afterwards; both held 8 before.
 fn judged_fresh(d2: i64, dd: i64, c: u8) -> (Result<Verdict, Refusal>, [u64; 2], [i64; 4]) {
     let (mut t, mut d) = ([8; 2], [8; 4]);
-    let (zeros, dd, c) = ([0; 9], [dd; 81], [c; 24]);
+    let (zeros, dd, c) = ([0; 9], [dd; triangle(9)], [c; 24]);
     let verdict = lova::verify_fresh(TWO, &[0; 2], &[0; 4], &[0], &[d2], &[0; 2], &zeros, &dd, &c, &mut t, &mut d);
     (verdict, t, d)
 }
@@ -175,4 +195,24 @@ fn fresh_verdicts_in_order() {
     assert_eq!(judged_fresh(577, 0, 1), (Ok(Verdict::Long), t, d));
     assert_eq!(judged_fresh(577, 5, 1), (Err(Refusal::DigitProduct), t, d));
     assert_eq!(judged_fresh(577, -5, 3), (Err(Refusal::Challenge), t, d));
+}
+
+/// The verdict on a general fold at t = 2 with another D1 and D2; both witnesses are 1 1.
+fn with_products(d1: [i64; 4], d2: [i64; 4]) -> Result<Verdict, Refusal> {
+    let (mut v, mut tt, mut dd, mut ss) = ([0; 4], [0; 12], [0; triangle(12)], [0; 12]);
+    lova::message(TWO, &[3], &[1, 1], &[1, 1], &mut v, &mut tt, &mut dd, &mut ss).unwrap();
+    let (mut t, mut d) = ([8; 2], [8; 4]);
+    let verdict = lova::verify(TWO, &[3, 3], &d1, &[3, 3], &d2, &v, &tt, &dd, &FRESH_C, &mut t, &mut d);
+    assert_eq!((t, d) == ([8; 2], [8; 4]), verdict != Ok(Verdict::Yes));
+    verdict
+}
+
+#[test]
+fn an_unsymmetric_instance_is_norm() {
+    assert_eq!(with_products([1; 4], [1; 4]), Ok(Verdict::Yes));
+    for d in [[1, 2, 1, 1], [1, 1, 2, 1], [1, 0, 1, 1], [1, 1, 0, 1]] {
+        assert_eq!(with_products(d, [1; 4]), Ok(Verdict::Norm));
+        assert_eq!(with_products([1; 4], d), Ok(Verdict::Norm));
+        assert_eq!(with_products(d, [577, 1, 1, 1]), Ok(Verdict::Long));
+    }
 }

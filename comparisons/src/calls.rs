@@ -138,7 +138,8 @@ impl Matrix {
             RightD => (right, right),
             V => (t, right),
             DigitT => (n, columns),
-            DigitD => (columns, columns),
+            // A lower triangle.
+            DigitD => return columns.saturating_mul(columns + 1) / 2,
             DigitS => (m, columns),
             C => (2 * k * t, t),
             JoinedT => (n, 2 * t),

@@ -2,7 +2,7 @@
 //! is repeated t times.
 
 use crate::calls::{assert_equal, Call, Matrix, Operation, Slice, GUARD};
-use reference::matrices::{repeated, repeated_square};
+use reference::matrices::{lower, mirrored, repeated, repeated_square};
 use reference::operations::Profile::{Fresh, General};
 use reference::settings::{shape, Shape};
 
@@ -30,7 +30,7 @@ impl Matrix {
             Matrix::RightS | Matrix::RightT | Matrix::V => repeated(inner, 1, 0, z.t),
             Matrix::RightD => repeated_square(inner, 1, 0, z.t),
             Matrix::DigitT | Matrix::DigitS => repeated(inner, columns, left, z.t),
-            Matrix::DigitD => repeated_square(inner, columns, left, z.t),
+            Matrix::DigitD => lower(&repeated_square(&mirrored(inner, columns), columns, left, z.t), z.columns),
             _ => inner.to_vec(),
         };
         [before, &inner, after].concat()

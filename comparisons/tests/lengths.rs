@@ -1,7 +1,8 @@
 //! Every slice of every operation with wrong lengths, by one and by much: always 7, and nothing is written.
 
-use comparisons::calls::{Call, Operation};
+use comparisons::calls::{Call, Matrix, Operation};
 use comparisons::cases::{fitting, lent_slices, other_lengths};
+use comparisons::inputs::shaped;
 use comparisons::seed::{below, generator};
 use comparisons::settings::{accepted_where, FULL};
 use comparisons::tally::Tally;
@@ -31,7 +32,7 @@ fn change(call: &mut Call, place: usize, other: impl Fn(usize) -> usize) {
     slice.resize(other(length) + *around);
 }
 
-/// The call with each slice in turn at each wrong length, that of the other profile included.
+/// The call with each slice in turn at each wrong length, that of the other profile and that of a square D~ included.
 fn each_slice(call: &Call, tally: &mut Tally, case: u64) {
     let profile = call.operation.profile();
     let other = if profile == General { Fresh } else { General };
@@ -41,6 +42,10 @@ fn each_slice(call: &Call, tally: &mut Tally, case: u64) {
         if other != length {
             lengths.push(other);
             tally.note("a length of the other profile");
+        }
+        if *matrix == Matrix::DigitD {
+            lengths.push(profile.columns(&shaped(&call.p)).pow(2));
+            tally.note("the length of a square");
         }
         for length in lengths {
             let mut wrong = call.clone();
@@ -62,7 +67,7 @@ fn wrong_lengths() {
             each_slice(&call, &mut tally, case);
         }
     }
-    finish(tally, &["a length of the other profile"]);
+    finish(tally, &["a length of the other profile", "the length of a square"]);
 }
 
 #[test]

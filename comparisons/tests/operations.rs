@@ -62,6 +62,7 @@ fn compared(operation: Operation, cases: u64) -> Tally {
             note_setting(&mut tally, &call);
             note_columns(&mut tally, &call);
             note_diagonals(&mut tally, &call, answer);
+            note_symmetry(&mut tally, &call, answer, case);
         }
     }
     tally
@@ -116,6 +117,27 @@ fn note_diagonals(tally: &mut Tally, call: &Call, answer: Answer) {
     notes.iter().filter(|(holds, _)| *holds).for_each(|(_, note)| tally.note(note));
 }
 
+/// By how much the entries of a square matrix differ from their mirror images, those that do.
+fn skew(d: &[i64]) -> Vec<u64> {
+    let side = d.len().isqrt();
+    let pairs = (0..side).flat_map(|i| (0..i).map(move |j| (i * side + j, j * side + i)));
+    pairs.map(|(one, two)| d[one].abs_diff(d[two])).filter(|by| *by != 0).collect()
+}
+
+/// Ask that an instance which is not symmetric is long or norm, and count norms where one entry alone is off, by one.
+fn note_symmetry(tally: &mut Tally, call: &Call, answer: Answer, case: u64) {
+    if !matches!(call.operation, Operation::Verify(_)) || matches!(answer, Answer::Refused(_)) {
+        return;
+    }
+    let [_, Slice::Numbers(d1), _, Slice::Numbers(d2), ..] = &call.read[..] else { return };
+    for (skew, note) in [(skew(d1), "unsymmetric D1"), (skew(d2), "unsymmetric D2")] {
+        assert!(skew.is_empty() || [Answer::Long, Answer::Norm].contains(&answer), "{}: {note}", call.place(case));
+        if skew == [1] && answer == Answer::Norm {
+            tally.note(note);
+        }
+    }
+}
+
 /// The borders of a commitment.
 const COMMITTED: [&str; 5] = ["done", "refused(8)", "N is 512", "a column at B", "a column at B + 1"];
 
@@ -159,17 +181,27 @@ fn join_fresh() {
     compare(Operation::Join(Fresh), 12000, &["done", "N is 512"]);
 }
 
-/// Compare verdicts; each answer is to be frequent.
+/// The instances that can be unsymmetric: a fresh D2 is one entry.
+fn unsymmetric(profile: Profile) -> &'static [&'static str] {
+    match profile {
+        General => &["unsymmetric D1", "unsymmetric D2"],
+        Fresh => &["unsymmetric D1"],
+    }
+}
+
+/// Compare verdicts; each answer is to be frequent, and unsymmetric instances are to occur.
 fn compare_verdicts(profile: Profile, cases: u64) {
     let tally = compared(Operation::Verify(profile), cases);
-    for (word, share) in [("yes", 5), ("long", 50), ("norm", 50), ("commitment", 50)] {
+    let answers = [("yes", 5), ("long", 50), ("norm", 50), ("commitment", 50)];
+    let rare = unsymmetric(profile).iter().map(|word| (*word, 1000));
+    for (word, share) in answers.into_iter().chain(rare) {
         assert!(tally.count(word) > cases / share, "{word}: {} of {cases}", tally.count(word));
     }
     let words = ["yes", "long", "norm", "commitment", "refused(9)", "refused(10)"];
     let borders = [
         "yes with a diagonal entry at B", "yes with a diagonal entry below 0", "long by one", "long in D2 alone",
     ];
-    tally.finish(&[&COMMON[..], &words, &borders, counted(profile)].concat());
+    tally.finish(&[&COMMON[..], &words, &borders, unsymmetric(profile), counted(profile)].concat());
 }
 
 #[test]

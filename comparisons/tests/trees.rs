@@ -7,7 +7,7 @@ use comparisons::seed::{below, generator, once_in, pick, seed};
 use comparisons::settings::{accepted_where, FULL};
 use comparisons::tally::Tally;
 use lova::{Membership, Setting, Verdict};
-use reference::matrices::{beside, inner_products, repeated, whole, wrapped, wrapping_product};
+use reference::matrices::{beside, inner_products, repeated, triangle_length, whole, wrapped, wrapping_product};
 use reference::operations::Profile::{self, Fresh, General};
 use reference::rng::Rng;
 use reference::settings::{Parameters, Shape, LIST};
@@ -102,7 +102,7 @@ impl Grower<'_> {
     fn fold(&mut self, profile: Profile, one: &Node, two: &Node, c: &[u8]) -> Node {
         let (p, n, m, t, columns) = (self.p, self.z.n, self.z.m, self.z.t, profile.columns(self.z));
         let (mut v, mut tt) = (vec![9; t * profile.right(self.z)], vec![9; n * columns]);
-        let (mut dd, mut ss) = (vec![9; columns * columns], vec![9; m * columns]);
+        let (mut dd, mut ss) = (vec![9; triangle_length(columns)], vec![9; m * columns]);
         let sent = library::message(p, profile, &self.a, &one.s, &two.s, &mut v, &mut tt, &mut dd, &mut ss);
         assert_eq!(sent, Ok(()));
         self.check_join(profile, one, two, &v);

@@ -72,7 +72,7 @@ pub fn case(p: [u64; 5]) -> Case {
     };
     let ((t1, d1), (t2, d2)) = (instance(&s1), instance(&s2));
     let (mut v, mut tt) = (vec![0; t * t], vec![0; n * columns]);
-    let (mut dd, mut ss) = (vec![0; columns * columns], vec![0; m * columns]);
+    let (mut dd, mut ss) = (vec![0; plain::triangle(columns)], vec![0; m * columns]);
     assert_eq!(plain::message(p, &a, &s1, &s2, &mut v, &mut tt, &mut dd, &mut ss), 0);
     // The first numbers of the second witness are as good a vector as any.
     let fresh = fresh(&z, p, &a, &s1, &s2[..m]);
@@ -85,7 +85,7 @@ fn fresh(z: &plain::Shape, p: [u64; 5], a: &[u64], s1: &[i64], vector: &[i64]) -
     let (mut t2, mut d2) = (vec![0; n], vec![0]);
     assert_eq!(plain::commit_fresh(p, a, vector, &mut t2, &mut d2), 0);
     let (mut v, mut tt) = (vec![0; t], vec![0; n * columns]);
-    let (mut dd, mut ss) = (vec![0; columns * columns], vec![0; m * columns]);
+    let (mut dd, mut ss) = (vec![0; plain::triangle(columns)], vec![0; m * columns]);
     assert_eq!(plain::message_fresh(p, a, s1, vector, &mut v, &mut tt, &mut dd, &mut ss), 0);
     Fresh { columns, vector: vector.to_vec(), t2, d2, v, tt, dd, ss }
 }

@@ -39,7 +39,7 @@ pub fn message_fresh(
     };
     let columns = fresh_columns(&z);
     let inputs = a.len() == z.n * z.m && s1.len() == z.m * z.t && vector.len() == z.m;
-    let outputs = v.len() == z.t && tt.len() == z.n * columns && dd.len() == columns * columns;
+    let outputs = v.len() == z.t && tt.len() == z.n * columns && dd.len() == triangle(columns);
     if !inputs || !outputs || ss.len() != z.m * columns {
         return 7;
     }
@@ -54,7 +54,7 @@ pub fn message_fresh(
     }
     digit_witness(&z, s1, vector, 1, ss);
     commitment(a, ss, z.m, columns, tt);
-    products(ss, ss, columns, dd);
+    lower_products(ss, columns, dd);
     0
 }
 
@@ -135,7 +135,7 @@ pub fn verify_fresh(
     };
     let columns = fresh_columns(&z);
     let instance = |t: &[u64], d: &[i64]| t.len() == z.n * z.t && d.len() == z.t * z.t;
-    let sent = v.len() == z.t && tt.len() == z.n * columns && dd.len() == columns * columns;
+    let sent = v.len() == z.t && tt.len() == z.n * columns && dd.len() == triangle(columns);
     let second = t2.len() == z.n && d2.len() == 1;
     if !instance(t1, d1) || !second || !sent || c.len() != z.columns * z.t || !instance(t, d) {
         return 7;
@@ -151,7 +151,7 @@ pub fn verify_fresh(
         let rows = summed(&z, c);
         fold_wrapping(tt, &rows, |v| *v, columns, z.t, t);
         let mut right = vec![0; columns * z.t];
-        fold_exactly(dd, &rows, |v| *v, columns, z.t, &mut right);
+        fold_symmetric(dd, &rows, |v| *v, z.t, &mut right);
         fold_transposed(&rows, &right, |v| *v, z.t, d);
     }
     answer

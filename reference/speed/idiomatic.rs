@@ -80,7 +80,28 @@ pub fn commitment(a: &[u64], s: &[i64], m: usize, columns: usize, out: &mut [u64
     }
 }
 
-/// x transposed times y, exactly: D = S-transposed S, V = S1-transposed S2 and D~.
+/// The number of entries of a lower triangle with so many rows, which is where the row after them begins.
+pub fn triangle(rows: usize) -> usize {
+    rows * (rows + 1) / 2
+}
+
+/// s transposed times s, exactly, as its lower triangle: D~ = S~-transposed S~.
+#[inline(never)]
+pub fn lower_products(s: &[i64], columns: usize, out: &mut [i64]) {
+    out.fill(0);
+    for row in s.chunks_exact(columns) {
+        let mut rest = &mut *out;
+        for (i, a) in row.iter().enumerate() {
+            let (row_out, below) = rest.split_at_mut(i + 1);
+            for (o, b) in row_out.iter_mut().zip(row) {
+                *o += a * b;
+            }
+            rest = below;
+        }
+    }
+}
+
+/// x transposed times y, exactly: D = S-transposed S and V = S1-transposed S2.
 #[inline(never)]
 pub fn products(x: &[i64], y: &[i64], columns: usize, out: &mut [i64]) {
     out.fill(0);
@@ -126,6 +147,27 @@ fn fold_wrapping<E>(x: &[u64], c: &[E], value: impl Fn(&E) -> i64, columns: usiz
     }
 }
 
+/// d times the matrix of the values of c, exactly, for a symmetric d given as its lower triangle: each entry beside the
+/// diagonal is used for two rows.
+fn fold_symmetric<E>(d: &[i64], c: &[E], value: impl Fn(&E) -> i64, t: usize, out: &mut [i64]) {
+    out.fill(0);
+    for (i, row_c) in c.chunks_exact(t).enumerate() {
+        let (above, rest) = out.split_at_mut(i * t);
+        let (row_d, own) = (&d[triangle(i)..triangle(i + 1)], &mut rest[..t]);
+        for ((x, other_c), other) in row_d.iter().zip(c.chunks_exact(t)).zip(above.chunks_exact_mut(t)) {
+            for (o, v) in own.iter_mut().zip(other_c) {
+                *o += x * value(v);
+            }
+            for (o, v) in other.iter_mut().zip(row_c) {
+                *o += x * value(v);
+            }
+        }
+        for (o, v) in own.iter_mut().zip(row_c) {
+            *o += row_d[i] * value(v);
+        }
+    }
+}
+
 /// The matrix of the values of c, transposed, times right, exactly.
 fn fold_transposed<E>(c: &[E], right: &[i64], value: impl Fn(&E) -> i64, t: usize, out: &mut [i64]) {
     out.fill(0);
@@ -150,11 +192,11 @@ pub fn fold_words(x: &[u64], c: &[u8], columns: usize, t: usize, out: &mut [u64]
     fold_wrapping(x, c, |v| ternary(*v), columns, t, out);
 }
 
-/// c transposed times d times c, exactly: D' = C-transposed D~ C.
+/// c transposed times d times c, exactly, for a lower triangle d: D' = C-transposed D~ C.
 #[inline(never)]
 pub fn fold_products(d: &[i64], c: &[u8], columns: usize, t: usize, out: &mut [i64]) {
     let mut right = vec![0; columns * t];
-    fold_small(d, c, columns, t, &mut right);
+    fold_symmetric(d, c, |v| ternary(*v), t, &mut right);
     fold_transposed(c, &right, |v| ternary(*v), t, out);
 }
 
@@ -236,7 +278,7 @@ pub fn message(
         Err(number) => return number,
     };
     let inputs = a.len() == z.n * z.m && s1.len() == z.m * z.t && s2.len() == z.m * z.t;
-    let outputs = v.len() == z.t * z.t && tt.len() == z.n * z.columns && dd.len() == z.columns * z.columns;
+    let outputs = v.len() == z.t * z.t && tt.len() == z.n * z.columns && dd.len() == triangle(z.columns);
     if !inputs || !outputs || ss.len() != z.m * z.columns {
         return 7;
     }
@@ -246,7 +288,7 @@ pub fn message(
     products(s1, s2, z.t, v);
     digit_witness(&z, s1, s2, z.t, ss);
     commitment(a, ss, z.m, z.columns, tt);
-    products(ss, ss, z.columns, dd);
+    lower_products(ss, z.columns, dd);
     0
 }
 
@@ -293,22 +335,26 @@ fn diagonal_within(d: &[i64], cols: usize, bound: u64) -> bool {
     d.iter().step_by(cols + 1).all(|x| *x <= bound as i64)
 }
 
-/// x G in whole numbers, one entry for each block of k: every sum stays within the width.
-fn recomposed(z: &Shape, x: &[i64]) -> Vec<i64> {
-    x.chunks_exact(z.k).map(|block| block.iter().zip(&z.powers).map(|(x, p)| x * *p as i64).sum()).collect()
+/// The sum of the entries of a block, each times its power of b: it stays within the width.
+fn recomposed(z: &Shape, block: &[i64]) -> i64 {
+    block.iter().zip(&z.powers).map(|(x, p)| x * *p as i64).sum()
 }
 
-/// Whether G-transposed dd G is the joined D, which has so many columns.
+/// Whether G-transposed dd G is the joined D, which has so many columns, for a lower triangle dd: each block at or below
+/// the diagonal is summed once and compared with both entries.
 fn norm_holds(z: &Shape, dd: &[i64], joined: &[i64], wide: usize) -> bool {
-    let right = recomposed(z, dd);
-    right.chunks_exact(z.k * wide).zip(joined.chunks_exact(wide)).all(|(rows, expected)| {
-        let mut sums = vec![0; wide];
-        for (row, p) in rows.chunks_exact(wide).zip(&z.powers) {
-            for (sum, x) in sums.iter_mut().zip(row) {
-                *sum += x * *p as i64;
+    (0..wide).all(|i| {
+        let mut sums = vec![0; i + 1];
+        for (p, power) in z.powers.iter().map(|power| *power as i64).enumerate() {
+            let row = i * z.k + p;
+            let (left, own) = dd[triangle(row)..triangle(row + 1)].split_at(i * z.k);
+            for (sum, block) in sums.iter_mut().zip(left.chunks_exact(z.k)) {
+                *sum += power * recomposed(z, block);
             }
+            // In the block on the diagonal all but the last entry stand above it as well.
+            sums[i] += power * (2 * recomposed(z, &own[..p]) + power * own[p]);
         }
-        sums == expected
+        sums.iter().enumerate().all(|(j, sum)| *sum == joined[i * wide + j] && *sum == joined[j * wide + i])
     })
 }
 
@@ -351,7 +397,7 @@ pub fn verify(
         Err(number) => return number,
     };
     let instance = |t: &[u64], d: &[i64]| t.len() == z.n * z.t && d.len() == z.t * z.t;
-    let sent = v.len() == z.t * z.t && tt.len() == z.n * z.columns && dd.len() == z.columns * z.columns;
+    let sent = v.len() == z.t * z.t && tt.len() == z.n * z.columns && dd.len() == triangle(z.columns);
     if !instance(t1, d1) || !instance(t2, d2) || !sent || c.len() != z.columns * z.t || !instance(t, d) {
         return 7;
     }

@@ -20,7 +20,7 @@ extern "C" {
     );
 }
 
-/// D~ of the digit witness s.
+/// D~ of the digit witness s, as its lower triangle.
 pub fn dd(s: &[i64], m: usize, columns: usize, out: &mut [i64]) {
     unsafe { product_dd(s.as_ptr(), s.len(), m, columns, out.as_mut_ptr(), out.len()) }
 }
@@ -32,7 +32,7 @@ pub fn tt(a: &[u64], s: &[i64], n: usize, m: usize, columns: usize, out: &mut [u
     }
 }
 
-/// D' of the digit products d and the challenge c.
+/// D' of the digit products d, a lower triangle, and the challenge c.
 pub fn d(d: &[i64], c: &[u8], columns: usize, t: usize, out: &mut [i64]) {
     unsafe { product_d(d.as_ptr(), d.len(), c.as_ptr(), c.len(), columns, t, out.as_mut_ptr(), out.len()) }
 }

@@ -75,8 +75,8 @@ macro_rules! variants {
 fn products(z: &Case) -> [Work; 4] {
     let dd: [Call; 3] = [
         |z, o| library::dd(&z.ss, z.m, z.columns, &mut o.whole[0]),
-        |z, o| plain::products(&z.ss, &z.ss, z.columns, &mut o.whole[0]),
-        |z, o| native::products(&z.ss, &z.ss, z.columns, &mut o.whole[0]),
+        |z, o| plain::lower_products(&z.ss, z.columns, &mut o.whole[0]),
+        |z, o| native::lower_products(&z.ss, z.columns, &mut o.whole[0]),
     ];
     let tt: [Call; 3] = [
         |z, o| library::tt(&z.a, &z.ss, z.n, z.m, z.columns, &mut o.words),
@@ -94,7 +94,7 @@ fn products(z: &Case) -> [Work; 4] {
         |z, o| native::fold_small(&z.ss, &z.c, z.columns, z.t, &mut o.whole[0]),
     ];
     [
-        Work { name: "D~", out: Out::of(0, [z.columns * z.columns, 0, 0]), calls: dd },
+        Work { name: "D~", out: Out::of(0, [plain::triangle(z.columns), 0, 0]), calls: dd },
         Work { name: "T~", out: Out::of(z.n * z.columns, [0, 0, 0]), calls: tt },
         Work { name: "D'", out: Out::of(0, [z.t * z.t, 0, 0]), calls: d },
         Work { name: "S'", out: Out::of(0, [z.m * z.t, 0, 0]), calls: s },
@@ -104,7 +104,7 @@ fn products(z: &Case) -> [Work; 4] {
 /// The six operations.
 fn operations(z: &Case) -> [Work; 6] {
     let instance = || Out::of(z.n * z.t, [z.t * z.t, 0, 0]);
-    let sent = Out::of(z.n * z.columns, [z.t * z.t, z.columns * z.columns, z.m * z.columns]);
+    let sent = Out::of(z.n * z.columns, [z.t * z.t, plain::triangle(z.columns), z.m * z.columns]);
     let message = variants!(m, z, o, {
         let [v, dd, ss] = &mut o.whole;
         o.code = m::message(z.p, &z.a, &z.s1, &z.s2, v, &mut o.words, dd, ss)
@@ -152,7 +152,7 @@ fn fresh_operations(z: &Case) -> [Work; 5] {
         let (x, t, d) = (&z.fresh, &mut o.words, &mut o.whole[0]);
         o.code = m::join_fresh(z.p, &z.t1, &z.d1, &x.t2, &x.d2, &x.v, t, d)
     });
-    let sent = Out::of(z.n * columns, [z.t, columns * columns, z.m * columns]);
+    let sent = Out::of(z.n * columns, [z.t, plain::triangle(columns), z.m * columns]);
     [
         Work { name: "fresh message", out: sent, calls: message },
         Work { name: "fresh verdict", out: Out::of(z.n * z.t, [z.t * z.t, 0, 0]), calls: verify },

@@ -67,6 +67,22 @@ pub fn cut_square<T: Copy>(a: &[T], columns: usize, kept: usize) -> Vec<T> {
     cut(&a[..kept * columns], columns, kept)
 }
 
+/// How many entries the lower triangle of a square matrix with so many rows has, the diagonal included.
+pub fn triangle_length(rows: usize) -> usize {
+    rows * (rows + 1) / 2
+}
+
+/// The lower triangle of a square matrix by rows: entry (i, j), j at most i, stands at i(i + 1)/2 + j.
+pub fn lower<T: Copy>(a: &[T], rows: usize) -> Vec<T> {
+    (0..rows).flat_map(|i| a[i * rows..i * rows + i + 1].to_vec()).collect()
+}
+
+/// The symmetric matrix of which this is the lower triangle by rows.
+pub fn mirrored<T: Copy>(triangle: &[T], rows: usize) -> Vec<T> {
+    let entry = |i: usize, j: usize| triangle[triangle_length(i.max(j)) + i.min(j)];
+    (0..rows).flat_map(|i| (0..rows).map(move |j| entry(i, j))).collect()
+}
+
 /// The product of a rows by inner and an inner by columns matrix in whole numbers.
 pub fn product(a: &[i128], b: &[i128], rows: usize, inner: usize, columns: usize) -> Vec<i128> {
     let mut out = vec![0; rows * columns];

@@ -3,6 +3,9 @@
 //! A fresh second witness is one vector that stands for t equal columns. The operations of a fold take a profile, and
 //! go by request 2's own sentence: all that is fresh is repeated t times, the general fold is made, and what is
 //! written is cut down to the fresh form.
+//!
+//! D~ is stored as its lower triangle by rows. The verdict goes by request 3's own sentence: that on a triangle is that
+//! on its mirrored square.
 
 use crate::digits::digit_matrix;
 use crate::matrices::*;
@@ -153,7 +156,7 @@ pub fn message(
     let Ok(z) = shape(p) else { return Answer::Refused(refusal(p)) };
     let (n, m, t, right, columns) = (z.n, z.m, z.t, profile.right(&z), profile.columns(&z));
     let inputs = [(a.len(), n * m), (s1.len(), m * t), (s2.len(), m * right), (v_out.len(), t * right)];
-    let digits = [(tt_out.len(), n * columns), (dd_out.len(), columns * columns), (ss_out.len(), m * columns)];
+    let digits = [(tt_out.len(), n * columns), (dd_out.len(), triangle_length(columns)), (ss_out.len(), m * columns)];
     if misfit(&inputs) || misfit(&digits) {
         return Answer::Refused(7);
     }
@@ -166,7 +169,7 @@ pub fn message(
     let dd = words(&inner_products(&ss, &ss, m, z.columns));
     v_out.copy_from_slice(&cut(&words(&inner_products(s1, &s2, m, t)), t, right));
     tt_out.copy_from_slice(&cut(&tt, z.columns, columns));
-    dd_out.copy_from_slice(&cut_square(&dd, z.columns, columns));
+    dd_out.copy_from_slice(&lower(&cut_square(&dd, z.columns, columns), columns));
     ss_out.copy_from_slice(&cut(&ss, z.columns, columns));
     Answer::Done
 }
@@ -191,6 +194,19 @@ fn judged(z: &Shape, joined_t: &[u64], joined_d: &[i64], tt: &[u64], dd: &[i64])
 
 /// Verdict: both instances, V, T~, D~, C to an answer and, on yes, T' = T~ C and D' = C-transposed D~ C.
 pub fn verdict(
+    p: &Parameters, profile: Profile, t1: &[u64], d1: &[i64], t2: &[u64], d2: &[i64], v: &[i64],
+    tt: &[u64], dd: &[i64], c: &[u8], t_out: &mut [u64], d_out: &mut [i64],
+) -> Answer {
+    let Ok(z) = shape(p) else { return Answer::Refused(refusal(p)) };
+    let columns = profile.columns(&z);
+    if dd.len() != triangle_length(columns) {
+        return Answer::Refused(7);
+    }
+    square_verdict(p, profile, t1, d1, t2, d2, v, tt, &mirrored(dd, columns), c, t_out, d_out)
+}
+
+/// The verdict in the square form, in which all of D~ is lent; it need not be symmetric.
+pub fn square_verdict(
     p: &Parameters, profile: Profile, t1: &[u64], d1: &[i64], t2: &[u64], d2: &[i64], v: &[i64],
     tt: &[u64], dd: &[i64], c: &[u8], t_out: &mut [u64], d_out: &mut [i64],
 ) -> Answer {

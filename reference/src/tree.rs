@@ -1,7 +1,7 @@
 //! Trees of folds: the honest calls, and the plain tree.
 
 use crate::digits::digit_matrix;
-use crate::matrices::{beside, product, repeated, whole, words};
+use crate::matrices::{beside, product, repeated, triangle_length, whole, words};
 use crate::operations::*;
 use crate::settings::{shape, Parameters, Shape};
 
@@ -22,7 +22,7 @@ pub struct Node {
     pub s: Vec<i64>,
 }
 
-/// The prover's message V, T~, D~ and the digits S~ that the prover keeps.
+/// The prover's message V, T~, D~, a lower triangle, and the digits S~ that the prover keeps.
 #[derive(Clone, Debug, PartialEq, Eq)]
 pub struct Message {
     pub v: Vec<i64>,
@@ -76,7 +76,7 @@ pub fn honest_message(p: &Parameters, profile: Profile, a: &[u64], s1: &[i64], s
     let columns = profile.columns(&z);
     let mut v = vec![HELD; z.t * profile.right(&z)];
     let mut tt = vec![HELD as u64; z.n * columns];
-    let mut dd = vec![HELD; columns * columns];
+    let mut dd = vec![HELD; triangle_length(columns)];
     let mut ss = vec![HELD; z.m * columns];
     accepted(message(p, profile, a, s1, s2, &mut v, &mut tt, &mut dd, &mut ss))?;
     Ok(Message { v, tt, dd, ss })

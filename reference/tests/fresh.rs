@@ -2,7 +2,7 @@
 
 mod common;
 use common::*;
-use reference::matrices::{cut, cut_square, repeated, repeated_square};
+use reference::matrices::{cut, cut_square, lower, mirrored, repeated, repeated_square};
 use reference::operations::Answer::*;
 use reference::operations::Profile::{Fresh, General};
 use reference::operations::*;
@@ -43,7 +43,7 @@ fn general_message(z: &Shape, sent: &Message) -> Message {
     Message {
         v: taken(&sent.v, 1, &rows(z.t), &vec![0; z.t]),
         tt: taken(&sent.tt, wide, &rows(z.n), &places),
-        dd: taken(&sent.dd, wide, &places, &places),
+        dd: lower(&taken(&mirrored(&sent.dd, wide), wide, &places, &places), z.columns),
         ss: taken(&sent.ss, wide, &rows(z.m), &places),
     }
 }
@@ -111,7 +111,8 @@ fn a_fold_by_hand() {
     assert_eq!(sent.v, [28, -20]);
     assert_eq!(sent.ss, [2, 1, 0, 0, -1, 0, -1, 1, 0]);
     assert_eq!(sent.tt, sent.ss.iter().map(|x| (3 * x) as u64).collect::<Vec<u64>>());
-    assert_eq!(sent.dd, sent.ss.iter().flat_map(|x| sent.ss.iter().map(move |y| x * y)).collect::<Vec<i64>>());
+    let dd = (0..9).flat_map(|i| (0..=i).map(move |j| (i, j))).map(|(i, j)| sent.ss[i] * sent.ss[j]);
+    assert_eq!(sent.dd, dd.collect::<Vec<i64>>());
     let t = vec![21, 15u64.wrapping_neg(), 12, 12];
     let d = vec![49, -35, 28, 28, -35, 25, -20, -20, 28, -20, 16, 16, 28, -20, 16, 16];
     assert_eq!(joined(&SMALL, Fresh, &left, &right, &sent.v), (Done, t, d));
@@ -255,7 +256,7 @@ fn refusals_in_order() {
     let (left, right, mut sent) = small();
     let mut c = C;
     // The last entries are the vector's: H and h are 4 and 2, as in the general form.
-    sent.dd[80] = 5;
+    sent.dd[44] = 5;
     sent.ss[8] = -3;
     assert_eq!(judge(&SMALL, Fresh, &left, &right, &sent, &c).0, Refused(10));
     assert_eq!(folded(&SMALL, Fresh, &sent.ss, &c), (Refused(11), vec![99; 2]));

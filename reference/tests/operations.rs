@@ -2,6 +2,7 @@
 
 mod common;
 use common::*;
+use reference::matrices::triangle_length;
 use reference::operations::Answer::*;
 use reference::operations::Profile::{Fresh, General};
 use reference::operations::*;
@@ -67,9 +68,10 @@ fn example_fold_in_full() {
     assert_eq!(sent.ss, [1, 1, 1, 0, 0, -1, 0, -1, 0, 0]);
     let three = 3u64.wrapping_neg();
     assert_eq!(sent.tt, [3, 3, 3, 0, 0, three, 0, three, 0, 0]);
+    assert_eq!(sent.dd.len(), 55);
     for i in 0..10 {
-        for j in 0..10 {
-            assert_eq!(sent.dd[i * 10 + j], sent.ss[i] * sent.ss[j]);
+        for j in 0..=i {
+            assert_eq!(sent.dd[i * (i + 1) / 2 + j], sent.ss[i] * sent.ss[j]);
         }
     }
     let (mut t, mut d) = ([0; 2], [0; 4]);
@@ -199,7 +201,7 @@ fn every_wrong_length_is_7_and_writes_nothing() {
             }
 
             let (mut v, mut tt) = (signed(3, t * right), words(4, n * wide));
-            let (mut dd, mut ss) = (signed(5, wide * wide), signed(6, m * wide));
+            let (mut dd, mut ss) = (signed(5, wide * (wide + 1) / 2), signed(6, m * wide));
             let (a, s1, s2) = (words(0, n * m), signed(1, m * t), signed(2, m * right));
             let answer = message(&p, profile, &a, &s1, &s2, &mut v, &mut tt, &mut dd, &mut ss);
             if position < 7 {
@@ -212,7 +214,7 @@ fn every_wrong_length_is_7_and_writes_nothing() {
 
             let (mut t_out, mut d_out) = (words(8, n * t), signed(9, t * t));
             let (t1, d1, t2, d2) = (words(0, n * t), signed(1, t * t), words(2, n * right), signed(3, right * right));
-            let (v, tt, dd) = (signed(4, t * right), words(5, n * wide), signed(6, wide * wide));
+            let (v, tt, dd) = (signed(4, t * right), words(5, n * wide), signed(6, wide * (wide + 1) / 2));
             let c = vec![1u8; l(7, columns * t)];
             let answer = verdict(&p, profile, &t1, &d1, &t2, &d2, &v, &tt, &dd, &c, &mut t_out, &mut d_out);
             assert_eq!(answer, if position < 10 { Refused(7) } else { Norm });
@@ -253,9 +255,9 @@ fn bad_settings_come_first_in_every_operation() {
 #[test]
 fn message_8_for_either_witness_writes_nothing() {
     for (s1, s2) in [([11], [0]), ([0], [11]), ([i64::MIN], [0]), ([0], [i64::MIN])] {
-        let (mut v, mut tt, mut dd, mut ss) = ([5i64; 1], [5u64; 10], [5i64; 100], [5i64; 10]);
+        let (mut v, mut tt, mut dd, mut ss) = ([5i64; 1], [5u64; 10], [5i64; 55], [5i64; 10]);
         assert_eq!(message(&ONE, General, &[3], &s1, &s2, &mut v, &mut tt, &mut dd, &mut ss), Refused(8));
-        assert_eq!((v, tt, dd, ss), ([5; 1], [5; 10], [5; 100], [5; 10]));
+        assert_eq!((v, tt, dd, ss), ([5; 1], [5; 10], [5; 55], [5; 10]));
     }
     // Only the last column of the second witness is too long.
     let p = setting(1, 2, 2, 9, 4608);
@@ -303,7 +305,7 @@ fn outcomes_by_their_sums() {
         for i in 0..columns {
             for j in 0..columns {
                 let sum: i128 = (0..m).map(|l| sent.ss[l * columns + i] as i128 * sent.ss[l * columns + j] as i128).sum();
-                assert_eq!(sent.dd[i * columns + j] as i128, sum);
+                assert_eq!(sent.dd[place(i, j)] as i128, sum);
                 assert!(sum.unsigned_abs() <= p.product_limit().unwrap());
             }
         }
@@ -320,7 +322,7 @@ fn outcomes_by_their_sums() {
                 let mut sum = 0;
                 for e in 0..columns {
                     for f in 0..columns {
-                        sum += value(c[e * t + i]) * sent.dd[e * columns + f] as i128 * value(c[f * t + j]);
+                        sum += value(c[e * t + i]) * sent.dd[place(e, f)] as i128 * value(c[f * t + j]);
                     }
                 }
                 assert_eq!(folded.d[i * t + j] as i128, sum);
@@ -386,17 +388,18 @@ fn damaged_messages() {
                     sent.tt[at] = sent.tt[at].wrapping_add(p.b);
                     sent.tt[at + 1] = sent.tt[at + 1].wrapping_sub(1);
                 }
-                // The same in D~, which the first equation cannot see; it may be 10.
+                // The same in D~, left of the diagonal's blocks, which the first equation cannot see; it may be 10.
                 6 => {
-                    let at = pick(&mut rng, sent.dd.len() / k) * k;
+                    let row = k + pick(&mut rng, columns - k);
+                    let at = place(row, pick(&mut rng, row / k) * k);
                     sent.dd[at] += p.b as i64 * step;
                     sent.dd[at + 1] -= step;
                 }
-                // A skew change inside one block, seen by neither equation.
+                // In a block on the diagonal, where an entry beside it counts twice: seen by neither equation.
                 7 => {
                     let row = pick(&mut rng, 2 * t) * k;
-                    sent.dd[row * columns + row + 1] += step;
-                    sent.dd[(row + 1) * columns + row] -= step;
+                    sent.dd[place(row + 2, row)] += step;
+                    sent.dd[place(row + 1, row + 1)] -= 2 * step;
                 }
                 // A diagonal entry at B, or past it.
                 8 => {
@@ -438,7 +441,7 @@ fn damaged_messages() {
 /// The message in Setting 1 with A = 3 of these digits, worked out by hand: message refuses a witness that is too long.
 fn by_hand(v: i64, ss: [i64; 10]) -> Message {
     let tt = ss.iter().map(|x| (3 * x) as u64).collect();
-    let dd = ss.iter().flat_map(|x| ss.map(|y| x * y)).collect();
+    let dd = (0..10).flat_map(|i| (0..=i).map(move |j| ss[i] * ss[j])).collect();
     Message { v: vec![v], tt, dd, ss: ss.to_vec() }
 }
 
@@ -476,7 +479,7 @@ fn long_comes_after_refusals_and_before_norm() {
 fn only_the_diagonal_is_long() {
     let p = setting(1, 1, 2, 5, 576);
     let columns = p.columns() as usize;
-    let sent = Message { v: vec![577; 4], tt: vec![0; columns], dd: vec![0; columns * columns], ss: vec![] };
+    let sent = Message { v: vec![577; 4], tt: vec![0; columns], dd: vec![0; triangle_length(columns)], ss: vec![] };
     let instance = |d: [i64; 4]| Node { t: vec![0; 2], d: d.to_vec(), s: vec![] };
     let short = instance([576, 577, 577, 576]);
     let c = vec![1; 2 * columns];
@@ -492,21 +495,16 @@ fn both_equations_broken_is_norm() {
     let (left, right, mut sent) = example();
     sent.tt[0] += 1;
     assert_eq!(judge(&ONE, &left, &right, &sent, &C).0, Commitment);
-    sent.dd[3] = 1;
+    sent.dd[place(3, 0)] = 1;
     assert_eq!(judge(&ONE, &left, &right, &sent, &C).0, Norm);
     sent.tt[0] -= 1;
     assert_eq!(judge(&ONE, &left, &right, &sent, &C).0, Norm);
 }
 
 #[test]
-fn unsymmetric_message_may_pass() {
-    // No test for symmetry: a skew change is not seen by the equations.
-    let (left, right, mut sent) = example();
-    sent.dd[4] += 1;
-    sent.dd[40] -= 1;
-    assert_eq!(judge(&ONE, &left, &right, &sent, &C).0, Yes);
-    // A negative diagonal within −H gets yes when the equations hold.
-    let mut zero = Message { v: vec![0], tt: vec![0; 10], dd: vec![0; 100], ss: vec![0; 10] };
+fn a_negative_diagonal_may_pass() {
+    // Within −H it gets yes when the equations hold.
+    let mut zero = Message { v: vec![0], tt: vec![0; 10], dd: vec![0; 55], ss: vec![0; 10] };
     zero.dd[0] = -1;
     let below = Node { t: vec![0], d: vec![-1], s: vec![] };
     let nothing = Node { t: vec![0], d: vec![0], s: vec![] };
@@ -516,7 +514,7 @@ fn unsymmetric_message_may_pass() {
 #[test]
 fn zero_and_lazy_messages_fail() {
     let (left, right, mut sent) = example();
-    sent.dd = vec![0; 100];
+    sent.dd = vec![0; 55];
     sent.tt = vec![0; 10];
     sent.v = vec![0];
     assert_eq!(judge(&ONE, &left, &right, &sent, &C).0, Norm);

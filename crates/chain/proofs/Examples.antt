@@ -5,6 +5,7 @@ use Rattle.integers.specs.Lists.{build}
 use Rattle.integers.specs.Sums.{sum, sumℕ}
 use Rattle.integers.specs.Residues.{residue}
 use Rattle.matrices.specs.Tables.{table, ternary}
+use Rattle.matrices.specs.Triangles.{lower, mirrored}
 use Rattle.settings.specs.Rules.{firstOf}
 use Rattle.settings.specs.Settings.{kOf, greatest, LOf, repunit}
 use Rattle.digits.specs.Digits.{stepOf, restOf, digitOf}
@@ -13,8 +14,8 @@ use Rattle.lova.specs.Tests.{all, every, eqZ, shortRight, diagonalWithin, areTe
 use Rattle.lova.specs.Fold.{beside, above, digitWitness, gadget}
 use Rattle.lova.specs.Commit.{commitRules, instanceIn, commitIn}
 use Rattle.lova.specs.Relation.{relationRules, productsHold, commitmentHolds, memberWord, relation}
-use Rattle.lova.specs.Message.{messageRules, preparedIn, messageIn}
-use Rattle.lova.specs.Verdict.{verdictRules, diagonalsHold, firstHolds, secondHolds, foldedInstance, verdictBy, judgedIn, verdictIn}
+use Rattle.lova.specs.Message.{messageRules, preparedAs, messageIn}
+use Rattle.lova.specs.Verdict.{verdictRulesAs, diagonalsHold, firstHolds, secondHolds, foldedInstance, verdictBy, judged, verdictAs, verdictIn}
 use Rattle.lova.specs.Witness.{witnessRules, foldedWitness, witnessIn}
 use Rattle.numerals.specs.Numerals.{isDigit, areDigits, isPlain, valueFrom, naturalFrom, natural, withoutMinus, withMinus, integer, fitUnsigned, fitSigned, readUnsigned, readSigned, unsignedOf, signedOf, decimalIn, decimal, decimalZ}
 use Rattle.text.specs.Fields.{onto, cutAt, same, push, exactly, afterWord, recordOf, readU64, readI64, readTernary}
@@ -66,7 +67,7 @@ abbrev not-due : Type 0
 not-due = program (112 ∷ 97 ∷ 114 ∷ 97 ∷ 109 ∷ 9 ∷ 49 ∷ 9 ∷ 49 ∷ 9 ∷ 49 ∷ 9 ∷ 50 ∷ 9 ∷ 49 ∷ 48 ∷ 48 ∷ 10 ∷ 108 ∷ 101 ∷ 97 ∷ 102 ∷ 9 ∷ 55 ∷ 10 ∷ []) ≡ (114 ∷ 101 ∷ 102 ∷ 117 ∷ 115 ∷ 101 ∷ 100 ∷ 9 ∷ 50 ∷ 9 ∷ 49 ∷ 51 ∷ 10 ∷ [])
 
 pub examples : example × one-leaf × empty × challenge-missing × no-line-feed × growth × growth-first × too-large × too-long × not-due
-unfolding build sum sumℕ residue table ternary firstOf greatest LOf repunit stepOf restOf digitOf unlessRefused all every eqZ shortRight diagonalWithin areTernary beside above digitWitness gadget commitRules instanceIn commitIn relationRules productsHold commitmentHolds memberWord relation messageRules preparedIn messageIn verdictRules diagonalsHold firstHolds secondHolds foldedInstance verdictBy judgedIn verdictIn witnessRules foldedWitness witnessIn isDigit areDigits isPlain valueFrom naturalFrom natural withoutMinus withMinus integer fitUnsigned fitSigned readUnsigned readSigned unsignedOf signedOf decimalIn decimal decimalZ onto cutAt same push exactly afterWord recordOf readU64 readI64 readTernary tabbed joined lineOf small refusal refuses unlessRefusing foldAnswer callsOf foldOf wordOf numbersOf leafText foldText endLine refusedLine numberOf onSetting onParam onMatrix onLeaf onChallenge takeDue isStopped badLine takeLine endDue atEnd printed program
+unfolding build sum sumℕ residue table lower mirrored ternary firstOf greatest LOf repunit stepOf restOf digitOf unlessRefused all every eqZ shortRight diagonalWithin areTernary beside above digitWitness gadget commitRules instanceIn commitIn relationRules productsHold commitmentHolds memberWord relation messageRules preparedAs messageIn verdictRulesAs diagonalsHold firstHolds secondHolds foldedInstance verdictBy judged verdictIn verdictAs witnessRules foldedWitness witnessIn isDigit areDigits isPlain valueFrom naturalFrom natural withoutMinus withMinus integer fitUnsigned fitSigned readUnsigned readSigned unsignedOf signedOf decimalIn decimal decimalZ onto cutAt same push exactly afterWord recordOf readU64 readI64 readTernary tabbed joined lineOf small refusal refuses unlessRefusing foldAnswer callsOf foldOf wordOf numbersOf leafText foldText endLine refusedLine numberOf onSetting onParam onMatrix onLeaf onChallenge takeDue isStopped badLine takeLine endDue atEnd printed program
 examples = (refl, refl, refl, refl, refl, refl, refl, refl, refl, refl)
 
 -- the setting with the largest matrices is taken, and its k is the most

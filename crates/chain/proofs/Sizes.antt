@@ -6,6 +6,7 @@ use native.Mathlib.Omega.{arith}
 use native.Mathlib.Nat.{mul-le-mul}
 use lib.Dec.{T, leb, leb→le}
 use Rattle.integers.proofs.Tests.{and-fst, and-snd}
+use Rattle.matrices.proofs.Triangles.{triangular-mono}
 use Rattle.settings.specs.Settings.{Parameters, kOf, NOf}
 use Rattle.lova.specs.Stored.{matrixA, matrixT, matrixS, matrixD, matrixV, matrixS~, matrixT~, matrixD~, sizeC}
 use Rattle.chain.specs.Limits.{small, programLimits, largest}
@@ -22,7 +23,7 @@ pub record Sizes (p : Parameters) : Type 0 where
   pub V-high : matrixV p .size ≤ matrixV largest .size
   pub S-high : matrixS p .size ≤ matrixS largest .size
   pub T~-high : matrixT~ p .size ≤ 256
-  pub D~-high : matrixD~ p .size ≤ 1024
+  pub D~-high : matrixD~ p .size ≤ 528
   pub S~-high : matrixS~ p .size ≤ 512
   pub C-high : sizeC p ≤ 64
 
@@ -41,7 +42,7 @@ by-four p n m t k =
       V-high = mul-le-mul t t;
       S-high = mul-le-mul m t;
       T~-high = mul-le-mul n N;
-      D~-high = mul-le-mul N N;
+      D~-high = triangular-mono (NOf p) 32 N;
       S~-high = mul-le-mul m N;
       C-high = mul-le-mul N t;
     }

@@ -6,6 +6,7 @@ ghost use Prim.Native.Nat.{_+_, _*_, _^_, _≤_};
 ghost use lib.ListN.{length};
 ghost use Rattle.matrices.specs.Matrices.{product, bothSides, contracted};
 ghost use Rattle.matrices.specs.Tables.{table, residues, signed, unsigned, challenge};
+ghost use Rattle.matrices.specs.Triangles.{triangular, mirrored};
 ghost use Rattle.small_rows.specs.Small.{Within, SmallMatrix};
 
 // S' with q, zeros so far, for the decoded challenge.
@@ -74,7 +75,7 @@ fn fold_instance_in(
     t: &mut [u64],
     d: &mut [i64],
 )
-    requires { ⌜ (length (now tt) ≡ n * (left + block)) × (length (now dd) ≡ (left + block) * (left + block))
+    requires { ⌜ (length (now tt) ≡ n * (left + block)) × (length (now dd) ≡ triangular (left + block))
         × Within (2 ^ 31) (now dd) × (left + block ≤ 512) × (1 ≤ copies) × (copies ≤ 16)
         × (length (now c) ≡ (left + copies * block) * cols) × (length (now t) ≡ n * cols)
         × (length (now d) ≡ cols * cols) × (cols * 512 ≤ length (now q)) × Within 16 (now q) ⌝ }
@@ -83,7 +84,7 @@ fn fold_instance_in(
         (contracted left block copies (challenge cols (now (c .entry))))) ⌝ }
     ensures { λ _. ⌜ now (d .exit)
         ≡ table cols cols (bothSides (left + block) (contracted left block copies (challenge cols (now (c .entry))))
-        (signed (left + block) (now (dd .entry)))) ⌝ }
+        (mirrored (now (dd .entry)))) ⌝ }
 {
     let rows = left + block;
     challenges::decode(c, left, block, copies, cols, q);
@@ -105,7 +106,7 @@ pub fn fold_instance(
     t: &mut [u64],
     d: &mut [i64],
 )
-    requires { ⌜ (length (now tt) ≡ n * (left + block)) × (length (now dd) ≡ (left + block) * (left + block))
+    requires { ⌜ (length (now tt) ≡ n * (left + block)) × (length (now dd) ≡ triangular (left + block))
         × Within (2 ^ 31) (now dd) × (left + block ≤ 512) × (cols ≤ 16) × (1 ≤ copies) × (copies ≤ 16)
         × (length (now c) ≡ (left + copies * block) * cols) × (length (now t) ≡ n * cols)
         × (length (now d) ≡ cols * cols) ⌝ }
@@ -114,7 +115,7 @@ pub fn fold_instance(
         (contracted left block copies (challenge cols (now (c .entry))))) ⌝ }
     ensures { λ _. ⌜ now (d .exit)
         ≡ table cols cols (bothSides (left + block) (contracted left block copies (challenge cols (now (c .entry))))
-        (signed (left + block) (now (dd .entry)))) ⌝ }
+        (mirrored (now (dd .entry)))) ⌝ }
 {
     if cols == 1 {
         let mut q = [0i16; 512];

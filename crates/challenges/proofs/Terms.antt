@@ -17,9 +17,9 @@ use Rattle.small_rows.specs.Columns.{byColumns}
 abbrev pub terms : List ℤ → List ℤ → ℕ → ℕ → ℤ
 terms e q j k = sum k (λ k. getD e k (pos 0) *ℤ byColumns q k j)
 
-module _ (e q : List ℤ) (j : ℕ) (few : length e ≤ 512) (small : Within (2 ^ 44) e) (factors : Within 16 q) where
-  pub terms-size : (k : ℕ) → k ≤ length e → natAbs (terms e q j k) ≤ 2 ^ 57
-  terms-size k h = omega (arith, product-bound k (2 ^ 44) 16 (λ i k. getD e k (pos 0)) (byColumns q) 0 j (λ r l. small r) (λ r l. factors (j * 512 + r)))
+module _ (e q : List ℤ) (j : ℕ) (few : length e ≤ 512) (small : Within (2 ^ 45) e) (factors : Within 16 q) where
+  pub terms-size : (k : ℕ) → k ≤ length e → natAbs (terms e q j k) ≤ 2 ^ 58
+  terms-size k h = omega (arith, product-bound k (2 ^ 45) 16 (λ i k. getD e k (pos 0)) (byColumns q) 0 j (λ r l. small r) (λ r l. factors (j * 512 + r)))
 
   pub terms-held : (k : ℕ) {a : ℕ} → k ≤ length e → a ≡ ofZ w64 (terms e q j k) → toZ w64 a ≡ terms e q j k
   terms-held k h holds = ap (toZ w64) holds ∙ read-back w64 (terms e q j k) (omega (arith, terms-size k h))

@@ -96,7 +96,7 @@ pub fn decode(c: &[u8], left: usize, block: usize, copies: usize, t: usize, q: &
 
 // e, as a row, times column j of q.
 fn fold_entry(e: &[i64], q: &[i16], j: usize) -> i64
-    requires { ⌜ (length (now e) ≤ 512) × Within (2 ^ 44) (now e) × Within 16 (now q)
+    requires { ⌜ (length (now e) ≤ 512) × Within (2 ^ 45) (now e) × Within 16 (now q)
         × (j * 512 + 512 ≤ length (now q)) ⌝ }
     ensures { λ r. ⌜ r ≡ rowTimes (now (e .entry)) (byColumns (now (q .entry))) j ⌝ }
 {
@@ -112,7 +112,7 @@ fn fold_entry(e: &[i64], q: &[i16], j: usize) -> i64
 
 // e, as a row of up to 512 numbers, times the first t columns of q, whose numbers may be sums of 16 of a challenge's.
 pub fn fold_row(e: &[i64], q: &[i16], t: usize, out: &mut [i64])
-    requires { ⌜ (length (now e) ≤ 512) × Within (2 ^ 44) (now e) × Within 16 (now q)
+    requires { ⌜ (length (now e) ≤ 512) × Within (2 ^ 45) (now e) × Within 16 (now q)
         × (t * 512 ≤ length (now q)) × (length (now out) ≡ t) ⌝ }
     ensures { λ _. ⌜ now (out .exit) ≡ build t (rowTimes (now (e .entry)) (byColumns (now (q .entry)))) ⌝ }
 {

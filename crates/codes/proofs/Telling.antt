@@ -20,7 +20,7 @@ use Rattle.lova.specs.Commit.{commitRules, instanceIn, commitIn}
 use Rattle.lova.specs.Message.{messageRules, preparedIn, messageIn}
 use Rattle.lova.specs.Witness.{witnessRules, foldedWitness, witnessIn}
 use Rattle.lova.specs.Join.{joinRules, joinedInstance, joinIn}
-use Rattle.lova.specs.Verdict.{verdictRules, verdictBy, judgedIn, verdictIn}
+use Rattle.lova.specs.Verdict.{verdictRulesAs, verdictRules, verdictBy, judged, judgedIn, verdictAs, verdictIn}
 use Rattle.lova.specs.Tests.{short}
 use Rattle.lova.specs.Relation.{relationRules, productsHold, commitmentHolds, memberWord, relation}
 use Rattle.codes.specs.Codes.{codeOf, meaningOf}
@@ -91,11 +91,11 @@ verdict-words true true true before after = refl
 
 module _ (p : Parameters) (f : Profile) (I₁ I₂ : Instance) (M : Message) (C : List ℕ) (out : Instance) where
   judged-told : Told «yes» ((judgedIn p f I₁ I₂ M C out) .answer)
-  unfolding judgedIn
+  unfolding judged
   judged-told = verdict-words _ _ _ out _
 
   pub verdict-told : Told «yes» ((verdictIn p f I₁ I₂ M C out) .answer)
-  unfolding verdictIn verdictRules
+  unfolding verdictIn verdictAs verdictRulesAs
   verdict-told = call-told «yes» out (judgedIn p f I₁ I₂ M C out) judged-told (afterSetting p (verdictRules p f I₁ I₂ M C out)) tt
 
 member-words : (isShort holdsD holdsT : Bool) → Told member (memberWord isShort holdsD holdsT)

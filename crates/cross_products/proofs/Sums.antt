@@ -207,12 +207,16 @@ module _ (rows cols : ℕ) (x y : List ℤ) where
   first-product : Agree rows cols crossedFirst (λ i j. productAt i j 0)
   first-product i j hi hj = ap₂ _*ℤ_ (first-at rows x i hi) (first-at cols y j hj)
 
+  pub first-crossed : Agree rows cols crossedFirst (crossed 1)
+  first-crossed i j hi hj =
+      first-product i j hi hj
+      ∙ sym (sum-step 0 (productAt i j) ∙ ap (λ (z : ℤ). z +ℤ productAt i j 0) (sum-none-yet (productAt i j)) ∙ +ℤ-idl _)
+
   pub crossed-first : (d : List ℤ) → d ≡ table rows cols crossedFirst → Agree rows cols (signed cols d) (crossed 1)
   crossed-first d e i j hi hj =
       ap (λ (xs : List ℤ). getD xs (i * cols + j) (pos 0)) e
       ∙ entry-table (pos 0) rows cols crossedFirst i j hi hj
-      ∙ first-product i j hi hj
-      ∙ sym (sum-step 0 (productAt i j) ∙ ap (λ (z : ℤ). z +ℤ productAt i j 0) (sum-none-yet (productAt i j)) ∙ +ℤ-idl _)
+      ∙ first-crossed i j hi hj
 
   pub crossed-first-room : (m : ℕ) → ((i j : ℕ) → i < rows → j < cols → crossedSizes m i j ≤ 2 ^ 62) → 0 < m
       → (i : ℕ) → i < rows → Small cols (crossedFirst i)
@@ -241,20 +245,20 @@ module _ (rows cols : ℕ) (x y : List ℤ) where
         (sumℕ-cong 4 _ (λ q. natAbs (productAt i j (k + q))) (λ q h. ap natAbs (four-term q h)))
         ∙ sym (sumℕ-split k 4 (λ r. natAbs (productAt i j r)))
 
-  -- d holds the product of the first k rows
-  module _ (k : ℕ) (d : List ℤ) (w : Agree rows cols (signed cols d) (crossed k)) where
-    pub crossed-more : (d′ : List ℤ) → Agree rows cols (signed cols d′) (λ i j. signed cols d i j +ℤ crossedOne k i j)
-        → Agree rows cols (signed cols d′) (crossed (k + 1))
-    crossed-more d′ r i j hi hj =
+  -- D is the product of the first k rows
+  module _ (k : ℕ) (D : Matrix) (w : Agree rows cols D (crossed k)) where
+    pub crossed-more : (D′ : Matrix) → Agree rows cols D′ (λ i j. D i j +ℤ crossedOne k i j)
+        → Agree rows cols D′ (crossed (k + 1))
+    crossed-more D′ r i j hi hj =
         r i j hi hj ∙ ap₂ _+ℤ_ (w i j hi hj) (lent-product k i j hi hj) ∙ sym (sum-step k (productAt i j))
 
-    pub crossed-four : (d′ : List ℤ) → Agree rows cols (signed cols d′) (λ i j. signed cols d i j +ℤ crossedFour k i j)
-        → Agree rows cols (signed cols d′) (crossed (k + 4))
-    crossed-four d′ r i j hi hj =
+    pub crossed-four : (D′ : Matrix) → Agree rows cols D′ (λ i j. D i j +ℤ crossedFour k i j)
+        → Agree rows cols D′ (crossed (k + 4))
+    crossed-four D′ r i j hi hj =
         r i j hi hj ∙ ap (λ (z : ℤ). z +ℤ crossedFour k i j) (w i j hi hj) ∙ four-product k i j hi hj
 
     module _ (m : ℕ) (small : (i j : ℕ) → i < rows → j < cols → crossedSizes m i j ≤ 2 ^ 62) where
-      pub crossed-room : k < m → Room rows cols (signed cols d) (λ i j. natAbs (crossedOne k i j))
+      pub crossed-room : k < m → Room rows cols D (λ i j. natAbs (crossedOne k i j))
       crossed-room h i j hi hj =
           rw (w i j hi hj, lent-product k i j hi hj) (omega (
             arith,
@@ -264,7 +268,7 @@ module _ (rows cols : ℕ) (x y : List ℤ) where
             small i j hi hj,
           ))
 
-      pub crossed-four-room : k + 4 ≤ m → Room rows cols (signed cols d) (fourSizes k)
+      pub crossed-four-room : k + 4 ≤ m → Room rows cols D (fourSizes k)
       crossed-four-room h i j hi hj =
           rw (w i j hi hj) (omega (
             arith,

@@ -1,11 +1,13 @@
-// The products of two witnesses' columns, exactly: V is S1 transposed times S2, and D is S transposed times S.
+// The products of two witnesses' columns, exactly: V is S1 transposed times S2, and D is S transposed times S, which is
+// written as a square or as its lower triangle.
 ghost use mathlib.Core.Path.{_≡_};
 ghost use Prim.Native.Nat.{ℕ, _+_, _*_, _^_, _≤_, _<_};
 ghost use lib.IntN.{pos, natAbs, _+ℤ_, _*ℤ_};
 ghost use lib.ListN.{length, getD};
 ghost use Rattle.integers.specs.Lists.{build};
-ghost use Rattle.matrices.specs.Matrices.{product, transposed, sizes, Agree};
+ghost use Rattle.matrices.specs.Matrices.{product, transposed, gram, sizes, Agree};
 ghost use Rattle.matrices.specs.Tables.{table, signed};
+ghost use Rattle.matrices.specs.Triangles.{triangular, lower, mirrored, mirroredPlus};
 ghost use Rattle.cross_products.specs.Rows.{outer, Small, Room, RowRoom};
 
 // Writes x times y into `row`, two numbers a turn: of a loop with one the compiler would make vectors, which have no
@@ -171,5 +173,57 @@ pub fn cross_products(x: &[i64], y: &[i64], m: usize, rows: usize, cols: usize, 
             add_products(&x[from..to], &y[start..end], rows, cols, out);
             k += 1;
         }
+    }
+}
+
+// Writes the product of each number of the row y with each of those up to it into the triangle `out`, row by row.
+fn write_lower(y: &[i64], n: usize, out: &mut [i64])
+    requires { ⌜ (length (now y) ≡ n) × (length (now out) ≡ triangular n) ⌝ }
+    requires { ⌜ ((i : ℕ) → i < n → Small n (outer (now y) (now y) i)) ⌝ }
+    ensures { λ _. ⌜ now (out .exit) ≡ lower n (outer (now (y .entry)) (now (y .entry))) ⌝ }
+{
+    let mut start: usize = 0;
+    let mut i: usize = 0;
+    while i < n {
+        let end = start + i + 1;
+        write_multiple(y[i], &y[..i + 1], &mut out[start..end]);
+        start = end;
+        i += 1;
+    }
+}
+
+// Adds the product of each number of the row y with each of those up to it to the triangle `out`.
+fn add_lower(y: &[i64], n: usize, out: &mut [i64])
+    requires { ⌜ (length (now y) ≡ n) × (length (now out) ≡ triangular n) ⌝ }
+    requires { ⌜ Room n n (mirrored (now out)) (λ i j. natAbs (outer (now y) (now y) i j)) ⌝ }
+    ensures { λ _. ⌜ now (out .exit)
+        ≡ lower n (mirroredPlus (now (out .entry)) (outer (now (y .entry)) (now (y .entry)))) ⌝ }
+{
+    let mut start: usize = 0;
+    let mut i: usize = 0;
+    while i < n {
+        let end = start + i + 1;
+        add_multiple(y[i], &y[..i + 1], &mut out[start..end]);
+        start = end;
+        i += 1;
+    }
+}
+
+// s transposed times s, exactly, as its lower triangle: s has m rows, at least one, and `cols` columns, and no partial
+// sum leaves a signed word. The rows are taken one after the other, so that a number of `out` is not read again right
+// after it was written, and the products of the first row are written, so that nothing has to be cleared before.
+pub fn lower_products(s: &[i64], m: usize, cols: usize, out: &mut [i64])
+    requires { ⌜ (0 < m) × (length (now s) ≡ m * cols) × (length (now out) ≡ triangular cols) ⌝ }
+    requires { ⌜ ((i j : ℕ) → i < cols → j < cols
+        → sizes m (transposed (signed cols (now s))) (signed cols (now s)) i j ≤ 2 ^ 62) ⌝ }
+    ensures { λ _. ⌜ now (out .exit) ≡ lower cols (gram m (signed cols (now (s .entry)))) ⌝ }
+{
+    write_lower(&s[..cols], cols, out);
+    let mut k: usize = 1;
+    while k < m {
+        let from = k * cols;
+        let to = from + cols;
+        add_lower(&s[from..to], cols, out);
+        k += 1;
     }
 }

@@ -47,7 +47,7 @@ module _ (p q : List ℤ) where
       (sumℕ-cong k _ _ (λ r h. ap₂ (λ (a b : ℕ). natAbs (getD p a (pos 0) *ℤ getD q b (pos 0))) (add-assoc x n r) (add-assoc y n r)))
       ∙ sym (sumℕ-split n k (λ r. natAbs (getD p (x + r) (pos 0) *ℤ getD q (y + r) (pos 0))))
 
-  dots-size : (x y n : ℕ) → natAbs (dots p q x y n) ≤ sizesOf p q x y n
+  pub dots-size : (x y n : ℕ) → natAbs (dots p q x y n) ≤ sizesOf p q x y n
   dots-size x y n = natAbs-sum n (λ r. getD p (x + r) (pos 0) *ℤ getD q (y + r) (pos 0))
 
   -- a sum of them in 32 bits
@@ -60,14 +60,9 @@ module _ (p q : List ℤ) where
   unfolding sum
   dots-one x y fp fq e = e ∙ ap₂ _*ℤ_ (toZ-ofZ w16 (getD p x (pos 0)) fp) (toZ-ofZ w16 (getD q y (pos 0)) fq) ∙ rw (add-zero x, add-zero y, +ℤ-idl)
 
-  -- 32 of them in 64 bits, and added to a number
+  -- 32 of them in 64 bits
   pub dots-wide : (x y : ℕ) {v : ℤ} → sizesOf p q x y 32 < 2 ^ 31 → v ≡ dots p q x y 32 → Held w64 (toZ w32 (ofZ w32 v)) (dots p q x y 32)
   dots-wide x y h e = held w64 (dots-held x y 32 h e .read) (omega (arith, dots-size x y 32))
-
-  pub dots-plus : (x y : ℕ) {u g v : ℤ} → sizesOf p q x y 32 < 2 ^ 31 → u ≡ g → natAbs g ≤ 2 ^ 61 → v ≡ dots p q x y 32
-      → Held w64 (u +ℤ toZ w64 (ofZ w64 (toZ w32 (ofZ w32 v)))) (g +ℤ dots p q x y 32)
-  dots-plus x y {g = g} few eu h ev =
-      held w64 (ap₂ _+ℤ_ eu (dots-wide x y few ev .read)) (omega (arith, natAbs-+ g (dots p q x y 32), dots-size x y 32))
 
   -- a sum of up to 512 of them by steps of 32, of numbers within h and k
   module _ (h k : ℕ) (left : Within h p) (right : Within k q) (few : 512 * (h * k) < 2 ^ 31) where

@@ -1,3 +1,3 @@
-pub mod Parts
 mod Compared
+mod RowSums
 mod Recomposed

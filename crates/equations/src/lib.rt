@@ -1,16 +1,16 @@
 // The verdict's two equations: whether a message's D~ and T~, times the gadget G, make the joined D and T.
 ghost use mathlib.Core.Path.{_≡_};
-ghost use Prim.Native.Nat.{_+_, _*_, _<_};
+ghost use Prim.Native.Nat.{_+_, _*_, _<_, _≤_};
 ghost use lib.Dec.{eqb};
 ghost use lib.ListN.{length};
 ghost use Rattle.integers.specs.Residues.{word};
 ghost use Rattle.matrices.specs.Matrices.{product, bothSides};
 ghost use Rattle.settings.specs.Settings.{Parameters, parametersOf, HOf};
 ghost use Rattle.lova.specs.Stored.{rightOf, columnsOf, matrixT, matrixD, rightT, rightD, sentV, sentT~, sentD~};
-ghost use Rattle.lova.specs.Tests.{eqZ, equal, equalWords};
+ghost use Rattle.lova.specs.Tests.{equal, equalWords};
 ghost use Rattle.lova.specs.Calls.{Rebuilt, Fits, Bounded};
 ghost use Rattle.lova.specs.Fold.{beside, blocks, gadget};
-ghost use Rattle.equations.specs.Blocks.{Handed};
+ghost use Rattle.equations.specs.Blocks.{Handed, equalBoth};
 
 mod blocks;
 mod recomposition;
@@ -18,11 +18,11 @@ mod recomposition;
 use lova::Profile;
 use settings::Setting;
 
-// Whether entry (i, j) of G-transposed D~ G, for dd = D~, is that of [d1 v; v-transposed d2]. It takes numbers and
-// slices, no setting: it is called for every entry, and a setting would be copied each time.
+// Whether entry (i, j), j <= i, of G-transposed D~ G, for dd = D~, is that of [d1 v; v-transposed d2] and, since it is
+// entry (j, i) as well, that one's too. It takes numbers and slices, no setting: it is called for every entry, and a
+// setting would be copied each time.
 fn block_equals(
     dd: &[i64],
-    columns: usize,
     powers: &[u64],
     k: usize,
     d1: &[i64],
@@ -33,22 +33,26 @@ fn block_equals(
     i: usize,
     j: usize,
 ) -> bool
-    requires { ⌜ ((p : Parameters) × (f : Profile) × Handed p f t right k columns (now powers)
+    requires { ⌜ ((p : Parameters) × (f : Profile) × Handed p f t right k ((t + right) * k) (now powers)
         × Fits (sentD~ p f) (now dd)
         × Bounded (columnsOf p f) (columnsOf p f) (HOf p) (sentD~ p f .read (now dd))
         × Fits (matrixD p) (now d1) × Fits (sentV p f) (now v) × Fits (rightD p f) (now d2)) ⌝ }
-    requires { ⌜ (i < t + right) × (j < t + right) ⌝ }
-    ensures { λ r. ⌜ ((p : Parameters) (f : Profile) → Handed p f t right k columns (now (powers .entry)) → r
-        ≡ eqZ (bothSides (columnsOf p f) (gadget p) (sentD~ p f .read (now (dd .entry))) i j)
+    requires { ⌜ (i < t + right) × (j ≤ i) ⌝ }
+    ensures { λ r. ⌜ ((p : Parameters) (f : Profile)
+        → Handed p f t right k ((t + right) * k) (now (powers .entry)) → r
+        ≡ equalBoth (bothSides (columnsOf p f) (gadget p) (sentD~ p f .read (now (dd .entry))))
         (blocks (p .t) (matrixD p .read (now (d1 .entry))) (sentV p f .read (now (v .entry)))
-        (rightD p f .read (now (d2 .entry))) i j)) ⌝ }
+        (rightD p f .read (now (d2 .entry)))) i j) ⌝ }
 {
-    recomposition::weighted_block(dd, columns, i, j, powers, k)
-        == blocks::joined_d(d1, v, d2, t, right, i, j)
+    let block = recomposition::weighted_block(dd, i, j, powers, k);
+    if block != blocks::joined_d(d1, v, d2, t, right, i, j) {
+        return false;
+    }
+    block == blocks::joined_d(d1, v, d2, t, right, j, i)
 }
 
-// The first equation, G-transposed D~ G = D in whole numbers: compared by rows, up to the first unequal entry. It is
-// compared on the columns as they are lent, so a fresh column once.
+// The first equation, G-transposed D~ G = D in whole numbers: compared by the rows of its lower half, each entry with
+// both of D's, up to the first unequal one. It is compared on the columns as they are lent, so a fresh column once.
 pub fn norm_holds(
     setting: Setting,
     profile: Profile,
@@ -77,13 +81,12 @@ pub fn norm_holds(
     let t = setting.t;
     let right = profile.right(t);
     let wide = t + right;
-    let columns = wide * k;
     let mut equal = true;
     let mut i: usize = 0;
     'rows: while i < wide {
         let mut j: usize = 0;
-        while j < wide {
-            if !block_equals(dd, columns, &powers, k, d1, v, d2, t, right, i, j) {
+        while j <= i {
+            if !block_equals(dd, &powers, k, d1, v, d2, t, right, i, j) {
                 equal = false;
                 break 'rows;
             }

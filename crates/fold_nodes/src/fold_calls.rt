@@ -49,11 +49,11 @@ pub(crate) fn calls(
 {
     let mut v = [0i64; 4];
     let mut tt = [0u64; 256];
-    let mut dd = [0i64; 1024];
+    let mut dd = [0i64; 528];
     let mut ss = [0i64; 512];
     let size_v = setting.t * setting.t;
     let size_tt = setting.n * setting.columns;
-    let size_dd = setting.columns * setting.columns;
+    let size_dd = setting.columns * (setting.columns + 1) / 2;
     let size_ss = setting.m * setting.columns;
     let said = messages::message(
         setting,

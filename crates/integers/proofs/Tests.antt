@@ -25,6 +25,10 @@ pub true-is : (c : Bool) → T c → c ≡ true
 true-is true h = refl
 true-is false h = absurd h
 
+pub false-is : (c : Bool) → T (not c) → c ≡ false
+false-is true h = absurd h
+false-is false h = refl
+
 -- both of two tests
 pub and-fst : (a b : Bool) → T (a && b) → T a
 and-fst true b h = tt

@@ -20,8 +20,8 @@ use Rattle.lova.specs.Answers.{Outcome, ends, «yes», long, norm, commi
 use Rattle.lova.specs.Stored.{Instance, Message, rightOf, columnsOf, matrixT, matrixD, matrixS~, rightT, rightD, sentV, sentS~, sentT~, sentD~, readC}
 use Rattle.lova.specs.Tests.{all, equal, equalWords, diagonalWithin}
 use Rattle.lova.specs.Fold.{beside, blocks, gadget}
-use Rattle.lova.specs.Repeats.{challengeIn, repeatedInstance, repeatedMessage, repeatedS~}
-use Rattle.lova.specs.Verdict.{diagonalsHold, firstHolds, secondHolds, foldedInstance, verdictBy, judgedIn}
+use Rattle.lova.specs.Repeats.{challengeIn, repeatedInstance, repeatedS~, meant}
+use Rattle.lova.specs.Verdict.{diagonalsHold, firstHolds, secondHolds, foldedInstance, verdictBy, judged, judgedIn}
 use Rattle.lova.specs.Witness.{foldedWitness}
 use Rattle.lova.proofs.Tests.{all-true, all-elim}
 use Rattle.lova.proofs.FreshTests as FreshTests
@@ -68,7 +68,7 @@ within-once p Fresh I₁ I₂ low = ap (λ (c : Bool). diagonalWithin p (I₁ .D
     lent i = leZ (rightD p Fresh .read (I₂ .D) i i) (pos (p .bound))
 
 pub first-once : (p : Parameters) (f : Profile) (I₁ I₂ : Instance) (M : Message) → 1 ≤ p .t
-    → firstHolds p I₁ (repeatedInstance p f I₂) (repeatedMessage p f M) ≡ firstOnce p f I₁ I₂ M
+    → firstHolds p I₁ (repeatedInstance p f I₂) (meant p f M) ≡ firstOnce p f I₁ I₂ M
 unfolding firstHolds
 first-once p General I₁ I₂ M low = ap (λ (w : ℕ). equal w w (bothSides (NOf p) (gadget p) (sentD~ p General .read (M .D~))) (blocksIn p General I₁ I₂ (M .«V»))) (omega arith)
 first-once p Fresh I₁ I₂ M low =
@@ -76,7 +76,7 @@ first-once p Fresh I₁ I₂ M low =
     ∙ ap (λ (n : ℕ). equal (p .t + 1) (p .t + 1) (bothSides n (gadget p) (sentD~ p Fresh .read (M .D~))) (blocksIn p Fresh I₁ I₂ (M .«V»))) (sym (columns-are p Fresh))
 
 pub second-once : (p : Parameters) (f : Profile) (I₁ I₂ : Instance) (M : Message) → 1 ≤ p .t
-    → secondHolds p I₁ (repeatedInstance p f I₂) (repeatedMessage p f M) ≡ secondOnce p f I₁ I₂ M
+    → secondHolds p I₁ (repeatedInstance p f I₂) (meant p f M) ≡ secondOnce p f I₁ I₂ M
 unfolding secondHolds
 second-once p General I₁ I₂ M low = ap (λ (w : ℕ). equalWords (p .n) w (product (NOf p) (sentT~ p General .read (M .T~)) (gadget p)) (besideIn p General I₁ I₂)) (omega arith)
 second-once p Fresh I₁ I₂ M low =
@@ -84,7 +84,7 @@ second-once p Fresh I₁ I₂ M low =
     ∙ ap (λ (n : ℕ). equalWords (p .n) (p .t + 1) (product n (sentT~ p Fresh .read (M .T~)) (gadget p)) (besideIn p Fresh I₁ I₂)) (sym (columns-are p Fresh))
 
 -- T' and D'
-pub folded-once : (p : Parameters) (f : Profile) (M : Message) (C : List ℕ) → foldedInstance p (repeatedMessage p f M) C ≡ record {
+pub folded-once : (p : Parameters) (f : Profile) (M : Message) (C : List ℕ) → foldedInstance p (meant p f M) C ≡ record {
   T = matrixT p .write (product (columnsOf p f) (sentT~ p f .read (M .T~)) (challengeIn p f C));
   D = matrixD p .write (bothSides (columnsOf p f) (challengeIn p f C) (sentD~ p f .read (M .D~)));
 }
@@ -122,8 +122,8 @@ module _ (p : Parameters) (f : Profile) (I₁ I₂ : Instance) (M : Message) (C 
   abbrev second : Bool
   second = secondOnce p f I₁ I₂ M
 
-  by-tests : result ≡ verdictBy within first second out (foldedInstance p (repeatedMessage p f M) C)
-  unfolding judgedIn
+  by-tests : result ≡ verdictBy within first second out (foldedInstance p (meant p f M) C)
+  unfolding judged
   by-tests = rw (within-once p f I₁ I₂ low, first-once p f I₁ I₂ M low, second-once p f I₁ I₂ M low) refl
 
   pub long-answer : within ≡ false → ends long out ≡ result

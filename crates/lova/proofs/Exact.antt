@@ -15,11 +15,11 @@ use Rattle.lova.specs.Answers.{afterSetting, «yes», norm, commitment, 
 use Rattle.lova.specs.declared.Profile.{Profile}
 use Rattle.lova.specs.declared.Profile.the-variants.{General}
 use Rattle.lova.specs.Stored.{Instance, Message, matrixS, matrixD}
-use Rattle.lova.specs.Repeats.{repeatedInstance, repeatedMessage}
+use Rattle.lova.specs.Repeats.{repeatedInstance, Matrices, meant}
 use Rattle.lova.specs.Tests.{short}
 use Rattle.lova.specs.Calls.{Short, ProperRelation, ProperVerdict}
 use Rattle.lova.specs.Relation.{Related, ProductsAgree, CommitmentAgrees, productsHold, commitmentHolds, memberWord, relation}
-use Rattle.lova.specs.Verdict.{Diagonals, FirstEquation, SecondEquation, diagonalsHold, firstHolds, secondHolds, verdictRules, foldedInstance, verdictBy, judgedIn, verdictIn}
+use Rattle.lova.specs.Verdict.{Diagonals, FirstEquation, SecondEquation, diagonalsHold, firstHolds, secondHolds, verdictRules, foldedInstance, verdictBy, judged, verdictAs, verdictIn}
 use Rattle.lova.proofs.Tests.{equal-iff, equal-words-iff, short-iff, diagonals-iff}
 use Rattle.lova.proofs.Refusals.{Ended, ends-so, untouched, relation-proper, verdict-proper}
 use Rattle.lova.proofs.ThreeTests.{answerBy, rankOf, first-fails, second-fails, third-fails, none-fails, answer-ended}
@@ -60,12 +60,12 @@ module _ (before after : Instance) where
   outputs-by false b c = inr refl
 
 module _ (p : Parameters) (f : Profile) (I₁ I₂ : Instance) (M : Message) where
-  -- what is fresh, repeated
+  -- what is fresh, repeated, and what the message stands for
   abbrev R₂ : Instance
   R₂ = repeatedInstance p f I₂
 
-  abbrev R : Message
-  R = repeatedMessage p f M
+  abbrev R : Matrices
+  R = meant p f M
 
   -- the three tests
   abbrev diagonals : Bool
@@ -90,12 +90,13 @@ module _ (p : Parameters) (f : Profile) (I₁ I₂ : Instance) (M : Message) whe
     abbrev result : Outcome Instance
     result = verdictBy diagonals first second out (foldedInstance p R C)
 
-    pub verdict-ended : Ended (result .answer)
+    pub verdict-ended : Ended ((judged p I₁ R₂ R C out) .answer)
+    unfolding judged
     verdict-ended r e = answer-ended norm «yes» norm-second yes-fourth diagonals first second r (sym (verdict-word out (foldedInstance p R C) diagonals first second) ∙ e)
 
     -- whenever the answer is not yes, T' and D' are what they were; where it is, they are the folded instance
     pub verdict-outputs : (verdictIn p f I₁ I₂ M C out ≡ ends «yes» (foldedInstance p R C)) ⊎ ((verdictIn p f I₁ I₂ M C out) .outputs ≡ out)
-    unfolding verdictIn judgedIn
+    unfolding verdictIn verdictAs judged
     verdict-outputs = go (untouched out _ (firstOf (afterSetting p (verdictRules p f I₁ I₂ M C out))))
       where
         go : (verdictIn p f I₁ I₂ M C out ≡ result) ⊎ ((verdictIn p f I₁ I₂ M C out) .outputs ≡ out)
@@ -105,7 +106,7 @@ module _ (p : Parameters) (f : Profile) (I₁ I₂ : Instance) (M : Message) whe
 
     module _ (proper : ProperVerdict p f I₁ I₂ M C out) where
       says : (verdictIn p f I₁ I₂ M C out) .answer ≡ answerBy norm «yes» diagonals first second
-      unfolding verdictIn judgedIn
+      unfolding verdictIn verdictAs judged
       says =
           ap (λ (o : Outcome Instance). o .answer) (ends-so out _ _ (verdict-proper p f I₁ I₂ M C out .1 proper))
           ∙ verdict-word out (foldedInstance p R C) diagonals first second

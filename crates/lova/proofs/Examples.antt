@@ -10,6 +10,7 @@ use Rattle.integers.specs.Lists.{build}
 use Rattle.integers.specs.Sums.{sum, sumℕ}
 use Rattle.integers.specs.Residues.{residue}
 use Rattle.matrices.specs.Tables.{table, ternary}
+use Rattle.matrices.specs.Triangles.{lower, mirrored}
 use Rattle.settings.specs.Rules.{firstOf}
 use Rattle.settings.specs.Settings.{Parameters, greatest, LOf, repunit}
 use Rattle.settings.specs.HouseList.{parameters}
@@ -24,8 +25,8 @@ use Rattle.lova.specs.Repeats.{placeOf}
 use Rattle.lova.specs.Commit.{commitRules, instanceIn, commitIn}
 use Rattle.lova.specs.Relation.{relationRules, productsHold, commitmentHolds, memberWord, relation}
 use Rattle.lova.specs.Join.{joinRules, joinedInstance, joinIn}
-use Rattle.lova.specs.Message.{messageRules, preparedIn, messageIn}
-use Rattle.lova.specs.Verdict.{verdictRules, diagonalsHold, firstHolds, secondHolds, foldedInstance, verdictBy, verdictIn, judgedIn}
+use Rattle.lova.specs.Message.{messageRules, preparedAs, messageIn}
+use Rattle.lova.specs.Verdict.{verdictRulesAs, diagonalsHold, firstHolds, secondHolds, foldedInstance, verdictBy, verdictIn, verdictAs, judged}
 use Rattle.lova.specs.Witness.{witnessRules, foldedWitness, witnessIn}
 use Rattle.lova.specs.Trees.{Tree, leaf, fold, foldFresh, plain}
 
@@ -83,7 +84,7 @@ oneByTwo = record {
   C = (1 ∷ 0 ∷ 2 ∷ 0 ∷ 1 ∷ 1 ∷ []);
   I₁ = record { T = (8251503302899466839 ∷ 18446744073709551581 ∷ []); D = (pos 25 ∷ []) };
   I₂ = record { T = (13591152778221270530 ∷ 18446744073709551574 ∷ []); D = (pos 36 ∷ []) };
-  said = record { message = record { «V» = (pos 30 ∷ []); T~ = (13107094598387747925 ∷ 13107094598387747925 ∷ 5339649475321803691 ∷ 0 ∷ 13107094598387747925 ∷ 5339649475321803691 ∷ 7 ∷ 7 ∷ 18446744073709551609 ∷ 0 ∷ 7 ∷ 18446744073709551609 ∷ []); D~ = (pos 1 ∷ pos 1 ∷ negsuc 0 ∷ pos 0 ∷ pos 1 ∷ negsuc 0 ∷ pos 1 ∷ pos 1 ∷ negsuc 0 ∷ pos 0 ∷ pos 1 ∷ negsuc 0 ∷ negsuc 0 ∷ negsuc 0 ∷ pos 1 ∷ pos 0 ∷ negsuc 0 ∷ pos 1 ∷ pos 0 ∷ pos 0 ∷ pos 0 ∷ pos 0 ∷ pos 0 ∷ pos 0 ∷ pos 1 ∷ pos 1 ∷ negsuc 0 ∷ pos 0 ∷ pos 1 ∷ negsuc 0 ∷ negsuc 0 ∷ negsuc 0 ∷ pos 1 ∷ pos 0 ∷ negsuc 0 ∷ pos 1 ∷ []) }; S~ = (pos 1 ∷ pos 1 ∷ negsuc 0 ∷ pos 0 ∷ pos 1 ∷ negsuc 0 ∷ []) };
+  said = record { message = record { «V» = (pos 30 ∷ []); T~ = (13107094598387747925 ∷ 13107094598387747925 ∷ 5339649475321803691 ∷ 0 ∷ 13107094598387747925 ∷ 5339649475321803691 ∷ 7 ∷ 7 ∷ 18446744073709551609 ∷ 0 ∷ 7 ∷ 18446744073709551609 ∷ []); D~ = (pos 1 ∷ pos 1 ∷ pos 1 ∷ negsuc 0 ∷ negsuc 0 ∷ pos 1 ∷ pos 0 ∷ pos 0 ∷ pos 0 ∷ pos 0 ∷ pos 1 ∷ pos 1 ∷ negsuc 0 ∷ pos 0 ∷ pos 1 ∷ negsuc 0 ∷ negsuc 0 ∷ pos 1 ∷ pos 0 ∷ negsuc 0 ∷ pos 1 ∷ []) }; S~ = (pos 1 ∷ pos 1 ∷ negsuc 0 ∷ pos 0 ∷ pos 1 ∷ negsuc 0 ∷ []) };
   joined = record { T = (8251503302899466839 ∷ 13591152778221270530 ∷ 18446744073709551581 ∷ 18446744073709551574 ∷ []); D = (pos 25 ∷ pos 30 ∷ pos 30 ∷ pos 36 ∷ []) };
   folded = record { T = (7767445123065944234 ∷ 14 ∷ []); D = (pos 4 ∷ []) };
   S′ = (pos 2 ∷ []);
@@ -100,7 +101,7 @@ evenBase = record {
   C = (1 ∷ 2 ∷ 1 ∷ 0 ∷ 2 ∷ 2 ∷ []);
   I₁ = record { T = (9750462527648048883 ∷ []); D = (pos 641 ∷ []) };
   I₂ = record { T = (18446744073709551491 ∷ []); D = (pos 625 ∷ []) };
-  said = record { message = record { «V» = (pos 100 ∷ []); T~ = (12933804471228417065 ∷ 11025879204962269117 ∷ 12933804471228417055 ∷ 18446744073709551611 ∷ 10 ∷ 18446744073709551611 ∷ []); D~ = (pos 5 ∷ negsuc 3 ∷ pos 1 ∷ negsuc 1 ∷ pos 4 ∷ negsuc 1 ∷ negsuc 3 ∷ pos 5 ∷ negsuc 1 ∷ pos 1 ∷ negsuc 1 ∷ pos 1 ∷ pos 1 ∷ negsuc 1 ∷ pos 1 ∷ pos 0 ∷ pos 0 ∷ pos 0 ∷ negsuc 1 ∷ pos 1 ∷ pos 0 ∷ pos 1 ∷ negsuc 1 ∷ pos 1 ∷ pos 4 ∷ negsuc 1 ∷ pos 0 ∷ negsuc 1 ∷ pos 4 ∷ negsuc 1 ∷ negsuc 1 ∷ pos 1 ∷ pos 0 ∷ pos 1 ∷ negsuc 1 ∷ pos 1 ∷ []) }; S~ = (pos 1 ∷ negsuc 1 ∷ pos 1 ∷ pos 0 ∷ pos 0 ∷ pos 0 ∷ pos 2 ∷ negsuc 0 ∷ pos 0 ∷ negsuc 0 ∷ pos 2 ∷ negsuc 0 ∷ []) };
+  said = record { message = record { «V» = (pos 100 ∷ []); T~ = (12933804471228417065 ∷ 11025879204962269117 ∷ 12933804471228417055 ∷ 18446744073709551611 ∷ 10 ∷ 18446744073709551611 ∷ []); D~ = (pos 5 ∷ negsuc 3 ∷ pos 5 ∷ pos 1 ∷ negsuc 1 ∷ pos 1 ∷ negsuc 1 ∷ pos 1 ∷ pos 0 ∷ pos 1 ∷ pos 4 ∷ negsuc 1 ∷ pos 0 ∷ negsuc 1 ∷ pos 4 ∷ negsuc 1 ∷ pos 1 ∷ pos 0 ∷ pos 1 ∷ negsuc 1 ∷ pos 1 ∷ []) }; S~ = (pos 1 ∷ negsuc 1 ∷ pos 1 ∷ pos 0 ∷ pos 0 ∷ pos 0 ∷ pos 2 ∷ negsuc 0 ∷ pos 0 ∷ negsuc 0 ∷ pos 2 ∷ negsuc 0 ∷ []) };
   joined = record { T = (9750462527648048883 ∷ 18446744073709551491 ∷ []); D = (pos 641 ∷ pos 100 ∷ pos 100 ∷ pos 625 ∷ []) };
   folded = record { T = (14841729737494564998 ∷ []); D = (pos 20 ∷ []) };
   S′ = (pos 4 ∷ pos 2 ∷ []);
@@ -117,7 +118,7 @@ twoColumns = record {
   C = (0 ∷ 0 ∷ 1 ∷ 2 ∷ 0 ∷ 0 ∷ 0 ∷ 1 ∷ 0 ∷ 0 ∷ 2 ∷ 0 ∷ 2 ∷ 0 ∷ 2 ∷ 0 ∷ 2 ∷ 2 ∷ 1 ∷ 1 ∷ 0 ∷ 0 ∷ 2 ∷ 2 ∷ []);
   I₁ = record { T = (17590956464333568730 ∷ 7851378412652368996 ∷ []); D = (pos 49 ∷ pos 154 ∷ pos 154 ∷ pos 484 ∷ []) };
   I₂ = record { T = (18270119653432686650 ∷ 8204627253206098928 ∷ []); D = (pos 529 ∷ negsuc 551 ∷ negsuc 551 ∷ pos 576 ∷ []) };
-  said = record { message = record { «V» = (pos 161 ∷ negsuc 167 ∷ pos 506 ∷ negsuc 527 ∷ []); T~ = (2390738407851083692 ∷ 10418741240780317654 ∷ 0 ∷ 2390738407851083692 ∷ 8028002832929233962 ∷ 10418741240780317654 ∷ 16056005665858467924 ∷ 0 ∷ 10418741240780317654 ∷ 10418741240780317654 ∷ 0 ∷ 8028002832929233962 ∷ []); D~ = (pos 4 ∷ pos 2 ∷ pos 0 ∷ pos 4 ∷ negsuc 1 ∷ pos 2 ∷ negsuc 3 ∷ pos 0 ∷ pos 2 ∷ pos 2 ∷ pos 0 ∷ negsuc 1 ∷ pos 2 ∷ pos 1 ∷ pos 0 ∷ pos 2 ∷ negsuc 0 ∷ pos 1 ∷ negsuc 1 ∷ pos 0 ∷ pos 1 ∷ pos 1 ∷ pos 0 ∷ negsuc 0 ∷ pos 0 ∷ pos 0 ∷ pos 0 ∷ pos 0 ∷ pos 0 ∷ pos 0 ∷ pos 0 ∷ pos 0 ∷ pos 0 ∷ pos 0 ∷ pos 0 ∷ pos 0 ∷ pos 4 ∷ pos 2 ∷ pos 0 ∷ pos 4 ∷ negsuc 1 ∷ pos 2 ∷ negsuc 3 ∷ pos 0 ∷ pos 2 ∷ pos 2 ∷ pos 0 ∷ negsuc 1 ∷ negsuc 1 ∷ negsuc 0 ∷ pos 0 ∷ negsuc 1 ∷ pos 1 ∷ negsuc 0 ∷ pos 2 ∷ pos 0 ∷ negsuc 0 ∷ negsuc 0 ∷ pos 0 ∷ pos 1 ∷ pos 2 ∷ pos 1 ∷ pos 0 ∷ pos 2 ∷ negsuc 0 ∷ pos 1 ∷ negsuc 1 ∷ pos 0 ∷ pos 1 ∷ pos 1 ∷ pos 0 ∷ negsuc 0 ∷ negsuc 3 ∷ negsuc 1 ∷ pos 0 ∷ negsuc 3 ∷ pos 2 ∷ negsuc 1 ∷ pos 4 ∷ pos 0 ∷ negsuc 1 ∷ negsuc 1 ∷ pos 0 ∷ pos 2 ∷ pos 0 ∷ pos 0 ∷ pos 0 ∷ pos 0 ∷ pos 0 ∷ pos 0 ∷ pos 0 ∷ pos 0 ∷ pos 0 ∷ pos 0 ∷ pos 0 ∷ pos 0 ∷ pos 2 ∷ pos 1 ∷ pos 0 ∷ pos 2 ∷ negsuc 0 ∷ pos 1 ∷ negsuc 1 ∷ pos 0 ∷ pos 1 ∷ pos 1 ∷ pos 0 ∷ negsuc 0 ∷ pos 2 ∷ pos 1 ∷ pos 0 ∷ pos 2 ∷ negsuc 0 ∷ pos 1 ∷ negsuc 1 ∷ pos 0 ∷ pos 1 ∷ pos 1 ∷ pos 0 ∷ negsuc 0 ∷ pos 0 ∷ pos 0 ∷ pos 0 ∷ pos 0 ∷ pos 0 ∷ pos 0 ∷ pos 0 ∷ pos 0 ∷ pos 0 ∷ pos 0 ∷ pos 0 ∷ pos 0 ∷ negsuc 1 ∷ negsuc 0 ∷ pos 0 ∷ negsuc 1 ∷ pos 1 ∷ negsuc 0 ∷ pos 2 ∷ pos 0 ∷ negsuc 0 ∷ negsuc 0 ∷ pos 0 ∷ pos 1 ∷ []) }; S~ = (pos 2 ∷ pos 1 ∷ pos 0 ∷ pos 2 ∷ negsuc 0 ∷ pos 1 ∷ negsuc 1 ∷ pos 0 ∷ pos 1 ∷ pos 1 ∷ pos 0 ∷ negsuc 0 ∷ []) };
+  said = record { message = record { «V» = (pos 161 ∷ negsuc 167 ∷ pos 506 ∷ negsuc 527 ∷ []); T~ = (2390738407851083692 ∷ 10418741240780317654 ∷ 0 ∷ 2390738407851083692 ∷ 8028002832929233962 ∷ 10418741240780317654 ∷ 16056005665858467924 ∷ 0 ∷ 10418741240780317654 ∷ 10418741240780317654 ∷ 0 ∷ 8028002832929233962 ∷ []); D~ = (pos 4 ∷ pos 2 ∷ pos 1 ∷ pos 0 ∷ pos 0 ∷ pos 0 ∷ pos 4 ∷ pos 2 ∷ pos 0 ∷ pos 4 ∷ negsuc 1 ∷ negsuc 0 ∷ pos 0 ∷ negsuc 1 ∷ pos 1 ∷ pos 2 ∷ pos 1 ∷ pos 0 ∷ pos 2 ∷ negsuc 0 ∷ pos 1 ∷ negsuc 3 ∷ negsuc 1 ∷ pos 0 ∷ negsuc 3 ∷ pos 2 ∷ negsuc 1 ∷ pos 4 ∷ pos 0 ∷ pos 0 ∷ pos 0 ∷ pos 0 ∷ pos 0 ∷ pos 0 ∷ pos 0 ∷ pos 0 ∷ pos 2 ∷ pos 1 ∷ pos 0 ∷ pos 2 ∷ negsuc 0 ∷ pos 1 ∷ negsuc 1 ∷ pos 0 ∷ pos 1 ∷ pos 2 ∷ pos 1 ∷ pos 0 ∷ pos 2 ∷ negsuc 0 ∷ pos 1 ∷ negsuc 1 ∷ pos 0 ∷ pos 1 ∷ pos 1 ∷ pos 0 ∷ pos 0 ∷ pos 0 ∷ pos 0 ∷ pos 0 ∷ pos 0 ∷ pos 0 ∷ pos 0 ∷ pos 0 ∷ pos 0 ∷ pos 0 ∷ negsuc 1 ∷ negsuc 0 ∷ pos 0 ∷ negsuc 1 ∷ pos 1 ∷ negsuc 0 ∷ pos 2 ∷ pos 0 ∷ negsuc 0 ∷ negsuc 0 ∷ pos 0 ∷ pos 1 ∷ []) }; S~ = (pos 2 ∷ pos 1 ∷ pos 0 ∷ pos 2 ∷ negsuc 0 ∷ pos 1 ∷ negsuc 1 ∷ pos 0 ∷ pos 1 ∷ pos 1 ∷ pos 0 ∷ negsuc 0 ∷ []) };
   joined = record { T = (17590956464333568730 ∷ 7851378412652368996 ∷ 18270119653432686650 ∷ 8204627253206098928 ∷ []); D = (pos 49 ∷ pos 154 ∷ pos 161 ∷ negsuc 167 ∷ pos 154 ∷ pos 484 ∷ pos 506 ∷ negsuc 527 ∷ pos 161 ∷ pos 506 ∷ pos 529 ∷ negsuc 551 ∷ negsuc 167 ∷ negsuc 527 ∷ negsuc 551 ∷ pos 576 ∷ []) };
   folded = record { T = (12809479648631401346 ∷ 2390738407851083692 ∷ []); D = (pos 9 ∷ pos 6 ∷ pos 6 ∷ pos 4 ∷ []) };
   S′ = (pos 3 ∷ pos 2 ∷ []);
@@ -134,7 +135,7 @@ twoByTwo = record {
   C = (2 ∷ 2 ∷ 0 ∷ 1 ∷ 2 ∷ 2 ∷ 2 ∷ 2 ∷ 1 ∷ 2 ∷ 1 ∷ 0 ∷ 2 ∷ 0 ∷ 2 ∷ 2 ∷ 2 ∷ 0 ∷ 1 ∷ 1 ∷ 1 ∷ 2 ∷ 1 ∷ 0 ∷ []);
   I₁ = record { T = (10780950125378685342 ∷ 15221260663489724096 ∷ []); D = (pos 4538 ∷ negsuc 2681 ∷ negsuc 2681 ∷ pos 3380 ∷ []) };
   I₂ = record { T = (5081190540907983230 ∷ 17342244178990348422 ∷ []); D = (pos 2186 ∷ pos 1717 ∷ pos 1717 ∷ pos 4549 ∷ []) };
-  said = record { message = record { «V» = (pos 2562 ∷ pos 4229 ∷ negsuc 361 ∷ negsuc 3543 ∷ []); T~ = (5324155966486225664 ∷ 6561294053611662976 ∷ 5942725010048944318 ∷ 5942725010048944310 ∷ 5324155966486225640 ∷ 12504019063660607298 ∷ 12504019063660607282 ∷ 5324155966486225644 ∷ 0 ∷ 11885450020097888636 ∷ 6561294053611662988 ∷ 5942725010048944318 ∷ []); D~ = (pos 20 ∷ negsuc 9 ∷ pos 4 ∷ pos 0 ∷ pos 8 ∷ negsuc 3 ∷ negsuc 11 ∷ pos 10 ∷ pos 0 ∷ pos 8 ∷ negsuc 3 ∷ pos 4 ∷ negsuc 9 ∷ pos 5 ∷ negsuc 1 ∷ pos 0 ∷ negsuc 3 ∷ pos 2 ∷ pos 6 ∷ negsuc 4 ∷ pos 0 ∷ negsuc 3 ∷ pos 2 ∷ negsuc 1 ∷ pos 4 ∷ negsuc 1 ∷ pos 1 ∷ pos 1 ∷ pos 4 ∷ negsuc 0 ∷ negsuc 0 ∷ pos 4 ∷ pos 0 ∷ pos 2 ∷ negsuc 1 ∷ pos 1 ∷ pos 0 ∷ pos 0 ∷ pos 1 ∷ pos 5 ∷ pos 12 ∷ negsuc 0 ∷ pos 7 ∷ pos 10 ∷ pos 0 ∷ pos 2 ∷ negsuc 5 ∷ pos 1 ∷ pos 8 ∷ negsuc 3 ∷ pos 4 ∷ pos 12 ∷ pos 32 ∷ negsuc 3 ∷ pos 12 ∷ pos 28 ∷ pos 0 ∷ pos 8 ∷ negsuc 15 ∷ pos 4 ∷ negsuc 3 ∷ pos 2 ∷ negsuc 0 ∷ negsuc 0 ∷ negsuc 3 ∷ pos 1 ∷ pos 1 ∷ negsuc 3 ∷ pos 0 ∷ negsuc 1 ∷ pos 2 ∷ negsuc 0 ∷ negsuc 11 ∷ pos 6 ∷ negsuc 0 ∷ pos 7 ∷ pos 12 ∷ pos 1 ∷ pos 17 ∷ pos 8 ∷ pos 0 ∷ negsuc 1 ∷ negsuc 5 ∷ negsuc 0 ∷ pos 10 ∷ negsuc 4 ∷ pos 4 ∷ pos 10 ∷ pos 28 ∷ negsuc 3 ∷ pos 8 ∷ pos 25 ∷ pos 0 ∷ pos 8 ∷ negsuc 13 ∷ pos 4 ∷ pos 0 ∷ pos 0 ∷ pos 0 ∷ pos 0 ∷ pos 0 ∷ pos 0 ∷ pos 0 ∷ pos 0 ∷ pos 0 ∷ pos 0 ∷ pos 0 ∷ pos 0 ∷ pos 8 ∷ negsuc 3 ∷ pos 2 ∷ pos 2 ∷ pos 8 ∷ negsuc 1 ∷ negsuc 1 ∷ pos 8 ∷ pos 0 ∷ pos 4 ∷ negsuc 3 ∷ pos 2 ∷ negsuc 3 ∷ pos 2 ∷ negsuc 1 ∷ negsuc 5 ∷ negsuc 15 ∷ pos 2 ∷ negsuc 5 ∷ negsuc 13 ∷ pos 0 ∷ negsuc 3 ∷ pos 8 ∷ negsuc 1 ∷ pos 4 ∷ negsuc 1 ∷ pos 1 ∷ pos 1 ∷ pos 4 ∷ negsuc 0 ∷ negsuc 0 ∷ pos 4 ∷ pos 0 ∷ pos 2 ∷ negsuc 1 ∷ pos 1 ∷ []) }; S~ = (pos 4 ∷ negsuc 1 ∷ pos 1 ∷ pos 1 ∷ pos 4 ∷ negsuc 0 ∷ negsuc 0 ∷ pos 4 ∷ pos 0 ∷ pos 2 ∷ negsuc 1 ∷ pos 1 ∷ pos 2 ∷ negsuc 0 ∷ pos 0 ∷ negsuc 1 ∷ negsuc 3 ∷ pos 0 ∷ negsuc 3 ∷ negsuc 2 ∷ pos 0 ∷ pos 0 ∷ pos 2 ∷ pos 0 ∷ []) };
+  said = record { message = record { «V» = (pos 2562 ∷ pos 4229 ∷ negsuc 361 ∷ negsuc 3543 ∷ []); T~ = (5324155966486225664 ∷ 6561294053611662976 ∷ 5942725010048944318 ∷ 5942725010048944310 ∷ 5324155966486225640 ∷ 12504019063660607298 ∷ 12504019063660607282 ∷ 5324155966486225644 ∷ 0 ∷ 11885450020097888636 ∷ 6561294053611662988 ∷ 5942725010048944318 ∷ []); D~ = (pos 20 ∷ negsuc 9 ∷ pos 5 ∷ pos 4 ∷ negsuc 1 ∷ pos 1 ∷ pos 0 ∷ pos 0 ∷ pos 1 ∷ pos 5 ∷ pos 8 ∷ negsuc 3 ∷ pos 4 ∷ pos 12 ∷ pos 32 ∷ negsuc 3 ∷ pos 2 ∷ negsuc 0 ∷ negsuc 0 ∷ negsuc 3 ∷ pos 1 ∷ negsuc 11 ∷ pos 6 ∷ negsuc 0 ∷ pos 7 ∷ pos 12 ∷ pos 1 ∷ pos 17 ∷ pos 10 ∷ negsuc 4 ∷ pos 4 ∷ pos 10 ∷ pos 28 ∷ negsuc 3 ∷ pos 8 ∷ pos 25 ∷ pos 0 ∷ pos 0 ∷ pos 0 ∷ pos 0 ∷ pos 0 ∷ pos 0 ∷ pos 0 ∷ pos 0 ∷ pos 0 ∷ pos 8 ∷ negsuc 3 ∷ pos 2 ∷ pos 2 ∷ pos 8 ∷ negsuc 1 ∷ negsuc 1 ∷ pos 8 ∷ pos 0 ∷ pos 4 ∷ negsuc 3 ∷ pos 2 ∷ negsuc 1 ∷ negsuc 5 ∷ negsuc 15 ∷ pos 2 ∷ negsuc 5 ∷ negsuc 13 ∷ pos 0 ∷ negsuc 3 ∷ pos 8 ∷ pos 4 ∷ negsuc 1 ∷ pos 1 ∷ pos 1 ∷ pos 4 ∷ negsuc 0 ∷ negsuc 0 ∷ pos 4 ∷ pos 0 ∷ pos 2 ∷ negsuc 1 ∷ pos 1 ∷ []) }; S~ = (pos 4 ∷ negsuc 1 ∷ pos 1 ∷ pos 1 ∷ pos 4 ∷ negsuc 0 ∷ negsuc 0 ∷ pos 4 ∷ pos 0 ∷ pos 2 ∷ negsuc 1 ∷ pos 1 ∷ pos 2 ∷ negsuc 0 ∷ pos 0 ∷ negsuc 1 ∷ negsuc 3 ∷ pos 0 ∷ negsuc 3 ∷ negsuc 2 ∷ pos 0 ∷ pos 0 ∷ pos 2 ∷ pos 0 ∷ []) };
   joined = record { T = (10780950125378685342 ∷ 15221260663489724096 ∷ 5081190540907983230 ∷ 17342244178990348422 ∷ []); D = (pos 4538 ∷ negsuc 2681 ∷ pos 2562 ∷ pos 4229 ∷ negsuc 2681 ∷ pos 3380 ∷ negsuc 361 ∷ negsuc 3543 ∷ pos 2562 ∷ negsuc 361 ∷ pos 2186 ∷ pos 1717 ∷ pos 4229 ∷ negsuc 3543 ∷ pos 1717 ∷ pos 4549 ∷ []) };
   folded = record { T = (7179863097174381662 ∷ 2474276174250874664 ∷ []); D = (pos 50 ∷ pos 80 ∷ pos 80 ∷ pos 160 ∷ []) };
   S′ = (negsuc 4 ∷ negsuc 11 ∷ pos 5 ∷ pos 4 ∷ []);
@@ -151,7 +152,7 @@ freshRight = record {
   C = (2 ∷ 2 ∷ 0 ∷ 1 ∷ 2 ∷ 2 ∷ 2 ∷ 2 ∷ 1 ∷ 2 ∷ 1 ∷ 0 ∷ 2 ∷ 0 ∷ 2 ∷ 2 ∷ 2 ∷ 0 ∷ 1 ∷ 1 ∷ 1 ∷ 2 ∷ 1 ∷ 0 ∷ []);
   I₁ = record { T = (10780950125378685342 ∷ 15221260663489724096 ∷ []); D = (pos 4538 ∷ negsuc 2681 ∷ negsuc 2681 ∷ pos 3380 ∷ []) };
   I₂ = record { T = (5081190540907983230 ∷ []); D = (pos 2186 ∷ []) };
-  said = record { message = record { «V» = (pos 2562 ∷ negsuc 361 ∷ []); T~ = (5324155966486225664 ∷ 6561294053611662976 ∷ 5942725010048944318 ∷ 5942725010048944310 ∷ 5324155966486225640 ∷ 12504019063660607298 ∷ 12504019063660607282 ∷ 5324155966486225644 ∷ 0 ∷ []); D~ = (pos 20 ∷ negsuc 9 ∷ pos 4 ∷ pos 0 ∷ pos 8 ∷ negsuc 3 ∷ negsuc 11 ∷ pos 10 ∷ pos 0 ∷ negsuc 9 ∷ pos 5 ∷ negsuc 1 ∷ pos 0 ∷ negsuc 3 ∷ pos 2 ∷ pos 6 ∷ negsuc 4 ∷ pos 0 ∷ pos 4 ∷ negsuc 1 ∷ pos 1 ∷ pos 1 ∷ pos 4 ∷ negsuc 0 ∷ negsuc 0 ∷ pos 4 ∷ pos 0 ∷ pos 0 ∷ pos 0 ∷ pos 1 ∷ pos 5 ∷ pos 12 ∷ negsuc 0 ∷ pos 7 ∷ pos 10 ∷ pos 0 ∷ pos 8 ∷ negsuc 3 ∷ pos 4 ∷ pos 12 ∷ pos 32 ∷ negsuc 3 ∷ pos 12 ∷ pos 28 ∷ pos 0 ∷ negsuc 3 ∷ pos 2 ∷ negsuc 0 ∷ negsuc 0 ∷ negsuc 3 ∷ pos 1 ∷ pos 1 ∷ negsuc 3 ∷ pos 0 ∷ negsuc 11 ∷ pos 6 ∷ negsuc 0 ∷ pos 7 ∷ pos 12 ∷ pos 1 ∷ pos 17 ∷ pos 8 ∷ pos 0 ∷ pos 10 ∷ negsuc 4 ∷ pos 4 ∷ pos 10 ∷ pos 28 ∷ negsuc 3 ∷ pos 8 ∷ pos 25 ∷ pos 0 ∷ pos 0 ∷ pos 0 ∷ pos 0 ∷ pos 0 ∷ pos 0 ∷ pos 0 ∷ pos 0 ∷ pos 0 ∷ pos 0 ∷ []) }; S~ = (pos 4 ∷ negsuc 1 ∷ pos 1 ∷ pos 1 ∷ pos 4 ∷ negsuc 0 ∷ negsuc 0 ∷ pos 4 ∷ pos 0 ∷ pos 2 ∷ negsuc 0 ∷ pos 0 ∷ negsuc 1 ∷ negsuc 3 ∷ pos 0 ∷ negsuc 3 ∷ negsuc 2 ∷ pos 0 ∷ []) };
+  said = record { message = record { «V» = (pos 2562 ∷ negsuc 361 ∷ []); T~ = (5324155966486225664 ∷ 6561294053611662976 ∷ 5942725010048944318 ∷ 5942725010048944310 ∷ 5324155966486225640 ∷ 12504019063660607298 ∷ 12504019063660607282 ∷ 5324155966486225644 ∷ 0 ∷ []); D~ = (pos 20 ∷ negsuc 9 ∷ pos 5 ∷ pos 4 ∷ negsuc 1 ∷ pos 1 ∷ pos 0 ∷ pos 0 ∷ pos 1 ∷ pos 5 ∷ pos 8 ∷ negsuc 3 ∷ pos 4 ∷ pos 12 ∷ pos 32 ∷ negsuc 3 ∷ pos 2 ∷ negsuc 0 ∷ negsuc 0 ∷ negsuc 3 ∷ pos 1 ∷ negsuc 11 ∷ pos 6 ∷ negsuc 0 ∷ pos 7 ∷ pos 12 ∷ pos 1 ∷ pos 17 ∷ pos 10 ∷ negsuc 4 ∷ pos 4 ∷ pos 10 ∷ pos 28 ∷ negsuc 3 ∷ pos 8 ∷ pos 25 ∷ pos 0 ∷ pos 0 ∷ pos 0 ∷ pos 0 ∷ pos 0 ∷ pos 0 ∷ pos 0 ∷ pos 0 ∷ pos 0 ∷ []) }; S~ = (pos 4 ∷ negsuc 1 ∷ pos 1 ∷ pos 1 ∷ pos 4 ∷ negsuc 0 ∷ negsuc 0 ∷ pos 4 ∷ pos 0 ∷ pos 2 ∷ negsuc 0 ∷ pos 0 ∷ negsuc 1 ∷ negsuc 3 ∷ pos 0 ∷ negsuc 3 ∷ negsuc 2 ∷ pos 0 ∷ []) };
   joined = record { T = (10780950125378685342 ∷ 15221260663489724096 ∷ 5081190540907983230 ∷ 5081190540907983230 ∷ []); D = (pos 4538 ∷ negsuc 2681 ∷ pos 2562 ∷ pos 2562 ∷ negsuc 2681 ∷ pos 3380 ∷ negsuc 361 ∷ negsuc 361 ∷ pos 2562 ∷ negsuc 361 ∷ pos 2186 ∷ pos 2186 ∷ pos 2562 ∷ negsuc 361 ∷ pos 2186 ∷ pos 2186 ∷ []) };
   folded = record { T = (618569043562718646 ∷ 4329983304939030654 ∷ []); D = (pos 25 ∷ pos 43 ∷ pos 43 ∷ pos 466 ∷ []) };
   S′ = (negsuc 2 ∷ negsuc 20 ∷ negsuc 3 ∷ pos 5 ∷ []);
@@ -160,7 +161,7 @@ freshRight = record {
 }
 
 all-right : Right General oneByTwo × Right General evenBase × Right General twoColumns × Right General twoByTwo × Right Fresh freshRight
-unfolding diagonalsHold diagonalWithin build sum sumℕ residue table placeOf ternary firstOf greatest LOf repunit stepOf restOf digitOf unlessRefused all every eqZ shortRight areTernary beside above digitWitness gadget commitRules instanceIn commitIn relationRules productsHold commitmentHolds memberWord relation joinRules joinedInstance joinIn messageRules preparedIn messageIn verdictRules firstHolds secondHolds foldedInstance verdictBy verdictIn judgedIn witnessRules foldedWitness witnessIn plain
+unfolding diagonalsHold diagonalWithin build sum sumℕ residue table lower mirrored placeOf ternary firstOf greatest LOf repunit stepOf restOf digitOf unlessRefused all every eqZ shortRight areTernary beside above digitWitness gadget commitRules instanceIn commitIn relationRules productsHold commitmentHolds memberWord relation joinRules joinedInstance joinIn messageRules preparedAs messageIn verdictRulesAs firstHolds secondHolds foldedInstance verdictBy verdictIn verdictAs judged witnessRules foldedWitness witnessIn plain
 all-right = (
   record { commits₁ = λ x y. refl; commits₂ = λ x y. refl; messages = refl; joins = refl; agrees = refl; commitment-only = refl; norm-first = refl; long-before-norm = refl; long-second = refl; border-is-norm = refl; folds = refl; members = refl; plain-tree = refl },
   record { commits₁ = λ x y. refl; commits₂ = λ x y. refl; messages = refl; joins = refl; agrees = refl; commitment-only = refl; norm-first = refl; long-before-norm = refl; long-second = refl; border-is-norm = refl; folds = refl; members = refl; plain-tree = refl },

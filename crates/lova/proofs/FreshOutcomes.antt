@@ -1,6 +1,5 @@
 -- Each outcome of a fresh call is the general call's, with all that is fresh repeated t times: answers, refusals and outputs.
 use mathlib.Core.Path.{_≡_, refl, sym, _∙_, ap, ap₂}
-use mathlib.Core.Logic.{_↔_}
 use mathlib.Core.Bool.{Bool, true, false, not, _&&_}
 use mathlib.Core.List.{List, [], _∷_}
 use Prim.Native.Nat.{ℕ, zero, suc}
@@ -8,24 +7,25 @@ use native.Mathlib.Omega.{arith}
 use lib.Dec.{T}
 use lib.IntN.{ℤ}
 use Rattle.integers.proofs.Tests.{same-test}
-use Rattle.matrices.specs.Matrices.{Matrix}
 use Rattle.matrices.proofs.Tables.{length-table}
+use Rattle.matrices.proofs.Triangles.{length-lower}
 use Rattle.settings.specs.Rules.{Rule, _gives_, firstOf}
 use Rattle.settings.specs.Settings.{Parameters, settingRefusal, hOf, HOf}
 use Rattle.settings.proofs.Accepted.{accepted}
 use Rattle.lova.specs.declared.Profile.the-variants.{General, Fresh}
 use Rattle.lova.specs.Answers.{afterSetting, done, Outcome, ends, unlessRefused}
 use Rattle.lova.specs.Stored.{Instance, Message, Prepared, sentS~, sentD~, matrixS~, matrixD~}
-use Rattle.lova.specs.Tests.{shortRight, areTernary, bounded}
-use Rattle.lova.specs.Calls.{Bounded, CommitLengths, JoinLengths, MessageLengths, VerdictLengths, WitnessLengths}
-use Rattle.lova.specs.Repeats.{repeatedS, repeatedInstance, repeatedV, repeatedMessage, repeatedS~, repeatedPrepared, expanded}
+use Rattle.lova.specs.Tests.{shortRight, areTernary}
+use Rattle.lova.specs.Calls.{CommitLengths, JoinLengths, MessageLengths, VerdictLengths, WitnessLengths}
+use Rattle.lova.specs.Repeats.{repeatedS, repeatedInstance, repeatedV, repeatedMessage, repeatedS~, repeatedPrepared, expanded, meant}
 use Rattle.lova.specs.Commit.{commitRules, commitIn}
 use Rattle.lova.specs.Join.{joinRules, joinedInstance, joinIn}
 use Rattle.lova.specs.Message.{messageRules, messageIn}
-use Rattle.lova.specs.Verdict.{verdictRules, judgedIn, verdictIn}
+use Rattle.lova.specs.Verdict.{verdictRulesAs, verdictRules, verdictAs, verdictIn}
 use Rattle.lova.specs.Witness.{witnessRules, foldedWitness, witnessIn}
-use Rattle.lova.proofs.Tests.{short-iff, bounded-iff}
+use Rattle.lova.proofs.Tests.{short-iff, same-bound}
 use Rattle.lova.proofs.Refusals.{setting-decides, own-decides, commitLens, joinLens, messageLens, verdictLens, witnessLens}
+use Rattle.lova.proofs.Judged.{judged-same}
 use Rattle.lova.proofs.Repeated as Repeated
 use Rattle.lova.proofs.BothProfiles as BothProfiles
 
@@ -48,13 +48,6 @@ same-number p own own′ h = by (settingRefusal p) refl
     by : (r : ℕ) → settingRefusal p ≡ r → firstOf (afterSetting p own) ≡ firstOf (afterSetting p own′)
     by zero e = own-decides p own e ∙ h e ∙ sym (own-decides p own′ e)
     by (suc r) e = let ne : settingRefusal p ≡ 0 → ⊥ = λ z. omega (arith, e, z) in setting-decides p own ne ∙ sym (setting-decides p own′ ne)
-
--- 10 and 11 for fresh matrices are 10 and 11 for the repeated ones
-same-bound : (rows cols rows′ cols′ M : ℕ) (X X′ : Matrix) → Bounded rows′ cols′ M X′ ↔ Bounded rows cols M X → bounded rows cols M X ≡ bounded rows′ cols′ M X′
-same-bound rows cols rows′ cols′ M X X′ b =
-    let f = bounded-iff rows cols M X in
-    let g = bounded-iff rows′ cols′ M X′ in
-    same-test (bounded rows cols M X) (bounded rows′ cols′ M X′) (λ h. g .1 (b .1 (f .0 h))) (λ h. f .1 (b .0 (g .0 h)))
 
 module _ (p : Parameters) where
   -- 8 for v is 8 for v repeated
@@ -98,19 +91,20 @@ module _ (p : Parameters) where
       skips (messageLens p Fresh A S₁ v out .test) 7 _ (messageLens p Fresh A S₁ v out .says .1 l)
       ∙ ap (λ (c : Bool). firstOf ((not (shortRight p General S₁ && c) gives 8) ∷ [])) (short-same ok v)
       ∙ sym (skips (messageLens p General A S₁ (repeatedS p Fresh v) (repeatedPrepared p Fresh out) .test) 7 _
-      (messageLens p General A S₁ (repeatedS p Fresh v) (repeatedPrepared p Fresh out) .says .1 (l .0, l .1, length-table _ _ _, ((length-table _ _ _, length-table _ _ _, length-table _ _ _), length-table _ _ _))))))
+      (messageLens p General A S₁ (repeatedS p Fresh v) (repeatedPrepared p Fresh out) .says .1 (l .0, l .1, length-table _ _ _, ((length-table _ _ _, length-table _ _ _, length-lower _ _), length-table _ _ _))))))
       (ap₂ (λ (M : Message) (S~ : List ℤ). record { message = M; S~ = S~ }) (BothProfiles.message-repeats p A Fresh S₁ v) (BothProfiles.witness-repeats p A Fresh S₁ v))
 
   pub verdict-repeats : (I₁ I₂ : Instance) (M : Message) (C : List ℕ) (out : Instance) → VerdictLengths p Fresh I₁ I₂ M C out
       → verdictIn p Fresh I₁ I₂ M C out ≡ verdictIn p General I₁ (repeatedInstance p Fresh I₂) (repeatedMessage p Fresh M) C out
-  unfolding verdictIn judgedIn verdictRules
+  unfolding verdictIn verdictAs verdictRulesAs
   verdict-repeats I₁ I₂ M C out l =
-      ap (λ (r : ℕ). unlessRefused r out (judgedIn p Fresh I₁ I₂ M C out))
+      ap₂ (λ (r : ℕ) (o : Outcome Instance). unlessRefused r out o)
       (same-number p (verdictRules p Fresh I₁ I₂ M C out) (verdictRules p General I₁ (repeatedInstance p Fresh I₂) (repeatedMessage p Fresh M) C out) (λ ok.
       skips (verdictLens p Fresh I₁ I₂ M C out .test) 7 _ (verdictLens p Fresh I₁ I₂ M C out .says .1 l)
       ∙ ap (λ (c : Bool). firstOf ((not (areTernary p C) gives 9) ∷ (not c gives 10) ∷ [])) (same-bound _ _ _ _ (HOf p) (sentD~ p Fresh .read (M .D~)) (matrixD~ p .read (repeatedMessage p Fresh M .D~)) (Repeated.D~-bounds p (accepted p ok .t-low) (HOf p) M))
       ∙ sym (skips (verdictLens p General I₁ (repeatedInstance p Fresh I₂) (repeatedMessage p Fresh M) C out .test) 7 _
-      (verdictLens p General I₁ (repeatedInstance p Fresh I₂) (repeatedMessage p Fresh M) C out .says .1 (l .0, (length-table _ _ _, length-table _ _ _), (length-table _ _ _, length-table _ _ _, length-table _ _ _), l .3, l .4)))))
+      (verdictLens p General I₁ (repeatedInstance p Fresh I₂) (repeatedMessage p Fresh M) C out .says .1 (l .0, (length-table _ _ _, length-table _ _ _), (length-table _ _ _, length-table _ _ _, length-lower _ _), l .3, l .4)))))
+      (sym (judged-same p (meant p General (repeatedMessage p Fresh M)) (meant p Fresh M) (Repeated.repeated-means p M) I₁ (repeatedInstance p Fresh I₂) C out))
 
   pub witness-repeats : (S~ : List ℤ) (C : List ℕ) (out : List ℤ) → WitnessLengths p Fresh S~ C out
       → witnessIn p Fresh S~ C out ≡ witnessIn p General (repeatedS~ p Fresh S~) C out

@@ -14,20 +14,21 @@ use Rattle.settings.proofs.Accepted.{Accepted, accepted}
 use Rattle.lova.specs.Answers.{afterSetting, done, «yes», Outcome, ends}
 use Rattle.lova.specs.declared.Profile.{Profile}
 use Rattle.lova.specs.declared.Profile.the-variants.{General, Fresh}
-use Rattle.lova.specs.Stored.{Instance, Message, Prepared, matrixA, matrixT, matrixS, matrixD, matrixS~, rightS, rightT, rightD, sentV, sentS~, sentT~, sentD~, joinedT, joinedD}
-use Rattle.lova.specs.Calls.{Fits, FitsInstance, FitsRight, FitsC, Short, ShortRight, DiagonalWithin, Ternary}
+use Rattle.lova.specs.Stored.{Instance, Prepared, matrixA, matrixT, matrixS, matrixD, matrixS~, rightS, rightT, rightD, sentV, sentS~, sentT~, sentD~, joinedT, joinedD}
+use Rattle.lova.specs.Calls.{Fits, FitsInstance, FitsRight, FitsC, Short, ShortRight, Ternary, DiagonalWithin}
 use Rattle.lova.specs.Fold.{besideS, digitWitness}
-use Rattle.lova.specs.Repeats.{repeatedS}
+use Rattle.lova.specs.Repeats.{repeatedS, repeatedInstance, Matrices, meant}
 use Rattle.lova.specs.Commit.{commitIn, instanceIn, instanceOf}
 use Rattle.lova.specs.Relation.{Related}
 use Rattle.lova.specs.Join.{joinIn, joinedInstance}
 use Rattle.lova.specs.Message.{messageIn, message, preparedIn, preparedOf}
-use Rattle.lova.specs.Verdict.{verdictIn, judgedIn, verdict, verdictRules, verdictBy, diagonalsHold, firstHolds, secondHolds, foldedInstance}
+use Rattle.lova.specs.Verdict.{verdictAs, verdictIn, judged, verdict, verdictRules, verdictBy, diagonalsHold, firstHolds, secondHolds, foldedInstance}
 use Rattle.lova.specs.Witness.{witnessIn, witness, foldedWitness}
 use Rattle.lova.specs.Trees.{Tree, leaf, fold, foldFresh, plain, Proper, Before, Held, FitsBefore, HeldFits, leftWitness, seen, prepares, preparesFresh, viewOf, joinOf, FoldAccepted, AllAccepted, Honest}
 use Rattle.lova.proofs.Tests.{equal-iff, equal-words-iff, diagonals-iff}
 use Rattle.lova.proofs.Refusals.{ends-so, commit-proper, join-proper, message-proper, verdict-proper, witness-proper}
-use Rattle.lova.proofs.BothProfiles.{right-fits, sent-fits, instance-repeats, message-repeats, V-repeats, witness-repeats, sent-S~-bounded, sent-D~-bounded, repeated-short}
+use Rattle.lova.proofs.Judged.{judged-same}
+use Rattle.lova.proofs.BothProfiles.{right-fits, sent-fits, instance-repeats, message-means, V-repeats, witness-repeats, sent-S~-bounded, sent-D~-bounded, repeated-short}
 use Rattle.lova.proofs.OneFold.{word-word, instance-fits, T-entry, D-entry, join-is, witness-is, witness-fits, instance-is, witness-short, norm-holds, commitment-holds}
 
 module _ (p : Parameters) (A : List ℕ) (ok : settingRefusal p ≡ 0) (sizeA : Fits (matrixA p) A) where
@@ -92,22 +93,26 @@ module _ (p : Parameters) (A : List ℕ) (ok : settingRefusal p ≡ 0) (sizeA : 
     yes-by false first second x y w f s = absurd w
 
     -- what is judged is the general message of S1 and of the second witness, repeated
-    judged-general : judgedIn p f I₁ I₂ (said .message) C (before .verdict) ≡ judgedIn p General I₁ (instanceOf p A R₂) (preparedOf p A S₁ R₂ .message) C (before .verdict)
-    unfolding judgedIn
-    judged-general = ap₂ (λ (I : Instance) (M : Message). verdictBy (diagonalsHold p I₁ I) (firstHolds p I₁ I M) (secondHolds p I₁ I M) (before .verdict) (foldedInstance p M C)) (instance-repeats p A f S₂) (message-repeats p A f S₁ S₂)
+    abbrev X : Matrices
+    X = meant p General (preparedOf p A S₁ R₂ .message)
+
+    judged-general : judged p I₁ (repeatedInstance p f I₂) (meant p f (said .message)) C (before .verdict) ≡ judged p I₁ (instanceOf p A R₂) X C (before .verdict)
+    judged-general =
+        sym (judged-same p X (meant p f (said .message)) (message-means p A f S₁ S₂) I₁ (repeatedInstance p f I₂) C (before .verdict))
+        ∙ ap (λ (I : Instance). judged p I₁ I X C (before .verdict)) (instance-repeats p A f S₂)
 
     -- the diagonals of two honest instances are within B
     within : T (diagonalsHold p I₁ (instanceOf p A R₂))
     within = diagonals-iff p I₁ (instanceOf p A R₂) .1 (diagonal-own S₁ short₁, diagonal-own R₂ shortR)
 
-    general-yes : judgedIn p General I₁ (instanceOf p A R₂) (preparedOf p A S₁ R₂ .message) C (before .verdict) ≡ ends «yes» (instanceOf p A S′)
-    unfolding judgedIn firstHolds secondHolds
+    general-yes : judged p I₁ (instanceOf p A R₂) X C (before .verdict) ≡ ends «yes» (instanceOf p A S′)
+    unfolding judged firstHolds secondHolds
     general-yes =
-        yes-by _ _ _ (before .verdict) (foldedInstance p (preparedOf p A S₁ R₂ .message) C) within (equal-iff _ _ _ _ .1 (norm-holds p A S₁ R₂ acc short₁ shortR)) (equal-words-iff _ _ _ _ .1 (commitment-holds p A S₁ R₂ acc short₁ shortR))
+        yes-by _ _ _ (before .verdict) (foldedInstance p X C) within (equal-iff _ _ _ _ .1 (norm-holds p A S₁ R₂ acc short₁ shortR)) (equal-words-iff _ _ _ _ .1 (commitment-holds p A S₁ R₂ acc short₁ shortR))
         ∙ ap (λ (x : Instance). ends «yes» x) (instance-is p A S₁ R₂ C)
 
     verdict-ends : verdictIn p f I₁ I₂ (said .message) C (before .verdict) ≡ ends «yes» (instanceOf p A S′)
-    unfolding verdictIn
+    unfolding verdictIn verdictAs
     verdict-ends = ends-so (before .verdict) _ _ verdict-proceeds ∙ judged-general ∙ general-yes
 
     witness-ends : witnessIn p f (said .S~) C (before .witness) ≡ ends done S′

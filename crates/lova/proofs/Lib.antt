@@ -8,6 +8,7 @@ pub mod Rebuilding
 pub mod Widths
 pub mod WaysOut
 pub mod Numbers
+pub mod Judged
 pub mod Contracted
 pub mod Repeated
 pub mod FreshEquations
@@ -15,6 +16,7 @@ pub mod OneFold
 pub mod BothProfiles
 pub mod FreshTests
 pub mod FreshOutcomes
+pub mod Mirrored
 pub mod Computed
 pub mod Honest
 pub mod ThreeTests

@@ -6,6 +6,7 @@ use Rattle.integers.specs.Lists.{build}
 use Rattle.integers.specs.Sums.{sum, sumℕ}
 use Rattle.integers.specs.Residues.{residue}
 use Rattle.matrices.specs.Tables.{table, ternary}
+use Rattle.matrices.specs.Triangles.{lower, mirrored}
 use Rattle.settings.specs.Rules.{firstOf}
 use Rattle.settings.specs.Settings.{greatest, LOf, repunit, settingRefusal}
 use Rattle.digits.specs.Digits.{stepOf, restOf, digitOf}
@@ -13,8 +14,8 @@ use Rattle.lova.specs.Answers.{unlessRefused}
 use Rattle.lova.specs.Tests.{all, every, eqZ, shortRight, diagonalWithin, areTernary}
 use Rattle.lova.specs.Fold.{beside, above, digitWitness, gadget}
 use Rattle.lova.specs.Commit.{commitRules, instanceIn, commitIn}
-use Rattle.lova.specs.Message.{messageRules, preparedIn, messageIn}
-use Rattle.lova.specs.Verdict.{verdictRules, diagonalsHold, firstHolds, secondHolds, foldedInstance, verdictBy, verdictIn, judgedIn}
+use Rattle.lova.specs.Message.{messageRules, preparedAs, messageIn}
+use Rattle.lova.specs.Verdict.{verdictRulesAs, diagonalsHold, firstHolds, secondHolds, foldedInstance, verdictBy, verdictAs, verdictIn, judged}
 use Rattle.lova.specs.Points.{Point, Says, points, In}
 
 -- a claim about each row of a list
@@ -27,7 +28,7 @@ at P x xs h (In.here) = h .0
 at P x xs h (In.there i) = at P x _ (h .1) i
 
 pub every-point : (p : Point) → In p points → Says p
-unfolding Says build sum sumℕ residue table firstOf greatest LOf repunit settingRefusal stepOf restOf digitOf unlessRefused ternary all every eqZ shortRight diagonalWithin areTernary beside above digitWitness gadget commitRules instanceIn commitIn messageRules preparedIn messageIn verdictRules diagonalsHold firstHolds secondHolds foldedInstance verdictBy judgedIn verdictIn
+unfolding Says build sum sumℕ residue table lower mirrored firstOf greatest LOf repunit settingRefusal stepOf restOf digitOf unlessRefused ternary all every eqZ shortRight diagonalWithin areTernary beside above digitWitness gadget commitRules instanceIn commitIn messageRules preparedAs messageIn verdictRulesAs diagonalsHold firstHolds secondHolds foldedInstance verdictBy judged verdictIn verdictAs
 every-point p i = at Says p points (
   (refl, refl, refl, omega arith),
   (

@@ -22,7 +22,7 @@ use Rattle.lova.specs.Commit.{commitRules}
 use Rattle.lova.specs.Relation.{relationRules}
 use Rattle.lova.specs.Join.{joinRules}
 use Rattle.lova.specs.Message.{messageRules}
-use Rattle.lova.specs.Verdict.{verdictRules}
+use Rattle.lova.specs.Verdict.{verdictRulesAs, verdictRules}
 use Rattle.lova.specs.Witness.{witnessRules}
 use Rattle.lova.proofs.Tests.{eqb-iff, short-iff, ternary-iff, bounded-iff}
 
@@ -278,7 +278,7 @@ module _ (p : Parameters) (f : Profile) where
       )
 
   pub verdict-proper : (I₁ I₂ : Instance) (M : Message) (C : List ℕ) (out : Instance) → (firstOf (afterSetting p (verdictRules p f I₁ I₂ M C out)) ≡ 0) ↔ ProperVerdict p f I₁ I₂ M C out
-  unfolding verdictRules
+  unfolding verdictRulesAs
   verdict-proper I₁ I₂ M C out =
       let s = of-setting p _ tt in
       let l = five (decInstance p I₁) (decRight I₂) (decMessage M) (decC p C) (decInstance p out) in
@@ -353,7 +353,7 @@ module _ (p : Parameters) (f : Profile) where
       )
 
   pub verdict-7 : (I₁ I₂ : Instance) (M : Message) (C : List ℕ) (out : Instance) → (firstOf (afterSetting p (verdictRules p f I₁ I₂ M C out)) ≡ 7) ↔ ((settingRefusal p ≡ 0) × (VerdictLengths p f I₁ I₂ M C out → ⊥))
-  unfolding verdictRules
+  unfolding verdictRulesAs
   verdict-7 I₁ I₂ M C out =
       let f = own-number p ([]) (verdictLens I₁ I₂ M C out) 7 ((not ((decTernary p C) .test) gives 9) ∷ (not ((decBounded p (columnsOf p f) (columnsOf p f) (HOf p) (sentD~ p f .read (M .D~))) .test) gives 10) ∷ []) tt tt in (
         (λ e. let x = f .0 e in (x .0, x .2)),
@@ -361,7 +361,7 @@ module _ (p : Parameters) (f : Profile) where
       )
 
   pub verdict-9 : (I₁ I₂ : Instance) (M : Message) (C : List ℕ) (out : Instance) → (firstOf (afterSetting p (verdictRules p f I₁ I₂ M C out)) ≡ 9) ↔ ((settingRefusal p ≡ 0) × VerdictLengths p f I₁ I₂ M C out × (Ternary p C → ⊥))
-  unfolding verdictRules
+  unfolding verdictRulesAs
   verdict-9 I₁ I₂ M C out =
       let f = own-number p ((not ((verdictLens I₁ I₂ M C out) .test) gives 7) ∷ []) (decTernary p C) 9 ((not ((decBounded p (columnsOf p f) (columnsOf p f) (HOf p) (sentD~ p f .read (M .D~))) .test) gives 10) ∷ []) tt tt in (
         (λ e. let x = f .0 e in (x .0, open-rule (verdictLens I₁ I₂ M C out) (x .1 .0), x .2)),
@@ -369,7 +369,7 @@ module _ (p : Parameters) (f : Profile) where
       )
 
   pub verdict-10 : (I₁ I₂ : Instance) (M : Message) (C : List ℕ) (out : Instance) → (firstOf (afterSetting p (verdictRules p f I₁ I₂ M C out)) ≡ 10) ↔ ((settingRefusal p ≡ 0) × VerdictLengths p f I₁ I₂ M C out × Ternary p C × (Bounded (columnsOf p f) (columnsOf p f) (HOf p) (sentD~ p f .read (M .D~)) → ⊥))
-  unfolding verdictRules
+  unfolding verdictRulesAs
   verdict-10 I₁ I₂ M C out =
       let f = own-number p ((not ((verdictLens I₁ I₂ M C out) .test) gives 7) ∷ (not ((decTernary p C) .test) gives 9) ∷ []) (decBounded p (columnsOf p f) (columnsOf p f) (HOf p) (sentD~ p f .read (M .D~))) 10 ([]) tt tt in (
         (λ e. let x = f .0 e in (x .0, open-rule (verdictLens I₁ I₂ M C out) (x .1 .0), open-rule (decTernary p C) (x .1 .1 .0), x .2)),

@@ -10,22 +10,24 @@ use lib.IntN.{ℤ, pos, _*ℤ_}
 use Rattle.integers.specs.Residues.{word}
 use Rattle.integers.proofs.Sums.{sum-cong}
 use Rattle.integers.proofs.Tests.{le-or-lt}
-use Rattle.matrices.specs.Matrices.{Matrix, product, bothSides, contracted, squaredLength, Agree}
+use Rattle.matrices.specs.Matrices.{Matrix, product, gram, bothSides, contracted, squaredLength, Agree}
 use Rattle.matrices.specs.Tables.{table}
-use Rattle.matrices.proofs.Matrices.{product-cong, bothSides-cong, squaredLength-cong}
+use Rattle.matrices.proofs.Matrices.{product-cong, squaredLength-cong}
 use Rattle.matrices.proofs.Tables.{entry-table, table-cong}
+use Rattle.matrices.proofs.Triangles.{lower-cong, mirrored-lower, mirrored-symmetric, gram-symmetric}
 use Rattle.settings.specs.Settings.{Parameters, kOf, NOf}
 use Rattle.digits.specs.Digits.{digitOf}
-use Rattle.lova.specs.Stored.{Message, columnsOf, matrixA, matrixS, matrixS~, matrixD~, matrixT~, rightS, sentS~, sentT~, sentD~, readC}
+use Rattle.lova.specs.Stored.{Message, columnsOf, matrixA, matrixS, matrixS~, matrixD~, rightS, sentS~, sentT~, sentD~, readC}
 use Rattle.lova.specs.Calls.{Short, Bounded}
 use Rattle.lova.specs.Fold.{beside, besideS, digitWitness}
 use Rattle.lova.specs.Commit.{instanceIn, instanceOf}
-use Rattle.lova.specs.Message.{preparedIn, preparedOf}
+use Rattle.lova.specs.Message.{preparedAs, preparedIn, preparedOf}
 use Rattle.lova.specs.Verdict.{foldedInstance}
 use Rattle.lova.specs.Witness.{foldedWitness}
 use Rattle.lova.proofs.Blocks.{beside-left, beside-right}
-use Rattle.lova.specs.declared.Profile.the-variants.{Fresh}
-use Rattle.lova.specs.Repeats.{placeOf, repeatedS, repeatedInstance, repeatedMessage, repeatedS~}
+use Rattle.lova.specs.declared.Profile.the-variants.{General, Fresh}
+use Rattle.lova.specs.Repeats.{placeOf, repeatedS, repeatedInstance, repeatedMessage, repeatedS~, meant}
+use Rattle.lova.proofs.Judged.{Same}
 use Rattle.lova.proofs.Contracted.{place-left, place-right, product-contracts, sides-contract}
 
 module _ (p : Parameters) where
@@ -101,13 +103,13 @@ module _ (p : Parameters) where
       module _ (A : List ℕ) where
         -- the digit witness
         pub witness-repeats : repeatedS~ p Fresh (preparedIn p Fresh A S₁ v .S~) ≡ preparedOf p A S₁ (repeatedS p Fresh v) .S~
-        unfolding preparedIn
+        unfolding preparedAs
         witness-repeats = table-cong (pos 0) (p .m) (NOf p) _ _ (λ i c hi hc.
             entry-table (pos 0) (p .m) (columnsOf p Fresh) _ i _ hi (place-bound c) ∙ digits-repeat i c hi hc)
 
         -- the message
         pub message-repeats : repeatedMessage p Fresh (preparedIn p Fresh A S₁ v .message) ≡ preparedOf p A S₁ (repeatedS p Fresh v) .message
-        unfolding preparedIn
+        unfolding preparedAs
         message-repeats = same-message
             (table-cong (pos 0) (p .t) (p .t) _ _ (λ i j hi hj.
             entry-table (pos 0) (p .t) 1 _ i 0 hi (omega arith)
@@ -115,8 +117,8 @@ module _ (p : Parameters) where
             (table-cong 0 (p .n) (NOf p) _ _ (λ i c hi hc.
             entry-table 0 (p .n) (columnsOf p Fresh) _ i _ hi (place-bound c)
             ∙ ap word (sum-cong (p .m) _ _ (λ k h. ap (λ (z : ℤ). matrixA p .read A i k *ℤ z) (digits-repeat k c h hc)))))
-            (table-cong (pos 0) (NOf p) (NOf p) _ _ (λ a c ha hc.
-            entry-table (pos 0) (columnsOf p Fresh) (columnsOf p Fresh) _ _ _ (place-bound a) (place-bound c)
+            (lower-cong (NOf p) _ _ (λ a c ha hc.
+            mirrored-lower (columnsOf p Fresh) (gram (p .m) (digitWitness p once)) (gram-symmetric (p .m) (columnsOf p Fresh) (digitWitness p once)) _ _ (place-bound a) (place-bound c)
             ∙ sum-cong (p .m) _ _ (λ k h. ap₂ _*ℤ_ (digits-repeat k a h ha) (digits-repeat k c h hc))))
           where
             same-message : {u u′ : List ℤ} {w w′ : List ℕ} {d d′ : List ℤ} → u ≡ u′ → w ≡ w′ → d ≡ d′
@@ -125,7 +127,7 @@ module _ (p : Parameters) where
 
   -- 10 and 11: a bound of a fresh matrix is the bound of the repeated one
   repeated-D~ : (M : Message) → Agree (NOf p) (NOf p) (matrixD~ p .read (repeatedMessage p Fresh M .D~)) (λ a c. sentD~ p Fresh .read (M .D~) (placeOf (p .t) (kOf p) a) (placeOf (p .t) (kOf p) c))
-  repeated-D~ M a c ha hc = entry-table (pos 0) (NOf p) (NOf p) _ a c ha hc
+  repeated-D~ M = mirrored-lower (NOf p) _ (λ a c ha hc. mirrored-symmetric (M .D~) _ _)
 
   -- every column of a fresh matrix stands somewhere in the repeated one
   onto : 1 ≤ p .t → (x : ℕ) → x < columnsOf p Fresh → (x < NOf p) × (placeOf (p .t) (kOf p) x ≡ x)
@@ -159,26 +161,29 @@ module _ (p : Parameters) where
     (λ b i c hi hc. rw (repeated-S~ S~ i c hi hc) (b i _ hi (place-bound c))),
   )
 
-  repeated-T~ : (M : Message) → Agree (p .n) (NOf p) (matrixT~ p .read (repeatedMessage p Fresh M .T~)) (λ i c. sentT~ p Fresh .read (M .T~) i (placeOf (p .t) (kOf p) c))
-  repeated-T~ M i c hi hc = ap pos (entry-table 0 (p .n) (NOf p) _ i c hi hc)
+  -- so the repeated message stands for the matrices that the fresh one stands for
+  pub repeated-means : (M : Message) → Same p (meant p General (repeatedMessage p Fresh M)) (meant p Fresh M)
+  repeated-means M = record {
+    same-V = λ i j hi hj. entry-table (pos 0) (p .t) (p .t) _ i j hi hj;
+    same-T~ = λ i c hi hc. ap pos (entry-table 0 (p .n) (NOf p) _ i c hi hc);
+    same-D~ = repeated-D~ M;
+  }
 
   -- what a fresh fold makes: the contracted challenge on the columns once
   abbrev K : List ℕ → Matrix
   K C = contracted (p .t * kOf p) (kOf p) (p .t) (readC p C)
 
-  pub folded-once : (M : Message) (C : List ℕ) → foldedInstance p (repeatedMessage p Fresh M) C ≡ record {
+  pub folded-once : (M : Message) (C : List ℕ) → foldedInstance p (meant p Fresh M) C ≡ record {
     T = table (p .n) (p .t) (λ i j. word (product (columnsOf p Fresh) (sentT~ p Fresh .read (M .T~)) (K C) i j));
     D = table (p .t) (p .t) (bothSides (columnsOf p Fresh) (K C) (sentD~ p Fresh .read (M .D~)));
   }
   unfolding foldedInstance
   folded-once M C = ap₂ (λ (t : List ℕ) (d : List ℤ). record { T = t; D = d })
       (table-cong 0 (p .n) (p .t) _ _ (λ i j hi hj. ap word (
-      product-cong (NOf p) (matrixT~ p .read (repeatedMessage p Fresh M .T~)) (λ i c. sentT~ p Fresh .read (M .T~) i (placeOf (p .t) (kOf p) c)) (readC p C) (readC p C) i j (λ c h. repeated-T~ M i c hi h) (λ c h. refl)
-      ∙ ap (λ (n : ℕ). product n (λ i c. sentT~ p Fresh .read (M .T~) i (placeOf (p .t) (kOf p) c)) (readC p C) i j) N-halves
+      ap (λ (n : ℕ). product n (meant p Fresh M .T~) (readC p C) i j) N-halves
       ∙ product-contracts (p .t) (kOf p) (sentT~ p Fresh .read (M .T~)) (readC p C) i j)))
       (table-cong (pos 0) (p .t) (p .t) _ _ (λ i j hi hj.
-      bothSides-cong (NOf p) (readC p C) (readC p C) (matrixD~ p .read (repeatedMessage p Fresh M .D~)) (λ a c. sentD~ p Fresh .read (M .D~) (placeOf (p .t) (kOf p) a) (placeOf (p .t) (kOf p) c)) i j (λ k h. refl) (λ k h. refl) (repeated-D~ M)
-      ∙ ap (λ (n : ℕ). bothSides n (readC p C) (λ a c. sentD~ p Fresh .read (M .D~) (placeOf (p .t) (kOf p) a) (placeOf (p .t) (kOf p) c)) i j) N-halves
+      ap (λ (n : ℕ). bothSides n (readC p C) (meant p Fresh M .D~) i j) N-halves
       ∙ sides-contract (p .t) (kOf p) (sentD~ p Fresh .read (M .D~)) (readC p C) i j))
 
   pub witness-once : (S~ : List ℤ) (C : List ℕ) → foldedWitness p (matrixS~ p .read (repeatedS~ p Fresh S~)) C ≡ table (p .m) (p .t) (product (columnsOf p Fresh) (sentS~ p Fresh .read S~) (K C))

@@ -6,14 +6,16 @@ use mathlib.Core.List.{List}
 use Prim.Native.Nat.{ℕ, zero, suc, _*_, _/_, _%_, _<_, _≤_}
 use native.Mathlib.Omega.{arith}
 use native.Mathlib.Nat.{eq-or-lt-of-le, le-of-suc-le-suc, div-add-mod', div-lt-iff-lt-mul, mod-lt}
-use lib.Dec.{T, not-T, eqb, leb→le, le→leb, lt→ltb, nleb→lt, eqb→eq, eqb-refl}
+use lib.Dec.{T, not-T, eqb, leb, leb→le, le→leb, lt→ltb, nleb→lt, eqb→eq, eqb-refl}
 use lib.IntN.{ℤ, pos, negsuc, natAbs}
 use lib.ListN.{length, getD, List·getD-eq-default}
 use lib.Signed.{leZ, _<ℤ_, clashℤ}
-use Rattle.integers.proofs.Tests.{and-fst, and-snd, and-both, le-or-lt}
+use Rattle.integers.proofs.Tests.{and-fst, and-snd, and-both, le-or-lt, same-test}
 use Rattle.integers.specs.Residues.{word}
 use Rattle.matrices.specs.Matrices.{Matrix, Agree}
 use Rattle.matrices.specs.Tables.{entry, signed}
+use Rattle.matrices.specs.Triangles.{triangular, mirrored}
+use Rattle.matrices.proofs.Triangles.{mirrored-bounds}
 use Rattle.settings.specs.Settings.{Parameters, NOf}
 use Rattle.lova.specs.declared.Profile.{Profile}
 use Rattle.lova.specs.Stored.{Instance, rightOf}
@@ -156,3 +158,26 @@ bounded-everywhere rows cols M xs long h k = ⊎-elim
     (λ (l : length xs ≤ k). rw (List·getD-eq-default xs (pos 0) {n = k} l) (omega arith))
     (λ (l : k < length xs). entries-everywhere (pos 0) rows cols (λ z. natAbs z ≤ M) xs h k (omega arith))
     (le-or-lt (length xs) k)
+
+-- two matrices of which one is bounded where the other is pass 10 or 11 alike
+pub same-bound : (rows cols rows′ cols′ M : ℕ) (X X′ : Matrix) → Bounded rows′ cols′ M X′ ↔ Bounded rows cols M X → bounded rows cols M X ≡ bounded rows′ cols′ M X′
+same-bound rows cols rows′ cols′ M X X′ b =
+    let f = bounded-iff rows cols M X in
+    let g = bounded-iff rows′ cols′ M X′ in
+    same-test (bounded rows cols M X) (bounded rows′ cols′ M X′) (λ h. g .1 (b .1 (f .0 h))) (λ h. f .1 (b .0 (g .0 h)))
+
+-- the same of a matrix stored as its lower triangle
+pub mirrored-everywhere : (n M : ℕ) (xs : List ℤ) → length xs ≡ triangular n → Bounded n n M (mirrored xs) → (k : ℕ) → natAbs (getD xs k (pos 0)) ≤ M
+mirrored-everywhere n M xs long h k = ⊎-elim
+    (λ (l : length xs ≤ k). rw (List·getD-eq-default xs (pos 0) {n = k} l) (omega arith))
+    (λ (l : k < length xs). mirrored-bounds n M xs .0 h k (rw long at l))
+    (le-or-lt (length xs) k)
+
+-- and the test of its entries is one of the list's elements
+pub mirrored-test : (n M : ℕ) (xs : List ℤ) → bounded n n M (mirrored xs) ≡ all (triangular n) (λ k. leb (natAbs (getD xs k (pos 0))) M)
+mirrored-test n M xs =
+    let b = mirrored-bounds n M xs in
+    let g = bounded-iff n n M (mirrored xs) in
+    same-test (bounded n n M (mirrored xs)) (all (triangular n) (λ k. leb (natAbs (getD xs k (pos 0))) M))
+    (λ h. all-true (triangular n) _ (λ k l. le→leb _ _ (b .0 (g .0 h) k l)))
+    (λ h. g .1 (b .1 (λ k l. leb→le _ _ (all-elim (triangular n) _ h k l))))

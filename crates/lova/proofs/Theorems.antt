@@ -3,22 +3,26 @@
 use mathlib.Core.Path.{_≡_}
 use mathlib.Core.Logic.{_↔_, _⊎_, _≢_}
 use mathlib.Core.List.{List}
-use Prim.Native.Nat.{ℕ}
+use Prim.Native.Nat.{ℕ, _<_, _≤_}
 use native.Mathlib.Omega.{arith}
-use lib.IntN.{ℤ}
+use lib.IntN.{ℤ, pos, natAbs}
+use lib.ListN.{length, getD}
+use Rattle.matrices.specs.Matrices.{Agree, Symmetric}
+use Rattle.matrices.proofs.Triangles.{mirrored-symmetric, mirrored-bounds}
 use Rattle.settings.specs.Settings.{Parameters, hOf, HOf, settingRefusal}
 use Rattle.lova.specs.Answers.{afterSetting, done, «yes», norm, commitment, long, products, member, refused, ends}
 use Rattle.lova.specs.declared.Profile.{Profile}
 use Rattle.lova.specs.declared.Profile.the-variants.{General, Fresh}
-use Rattle.lova.specs.Stored.{Instance, Message, Prepared, matrixA, matrixS~, columnsOf, sentS~, sentD~}
-use Rattle.lova.specs.Repeats.{repeatedS, repeatedInstance, repeatedMessage, repeatedV, repeatedS~, repeatedPrepared, expanded}
+use Rattle.lova.specs.Stored.{Instance, Message, Prepared, matrixA, matrixD, matrixS~, columnsOf, sentS~, sentD~}
+use Rattle.lova.specs.Repeats.{repeatedS, repeatedInstance, repeatedMessage, repeatedV, repeatedS~, repeatedPrepared, Matrices, meant, expanded}
 use Rattle.lova.specs.Calls.{CommitLengths, RelationLengths, JoinLengths, MessageLengths, VerdictLengths, WitnessLengths, Fits, Short, ShortRight, DiagonalWithin, DiagonalLong, Ternary, Bounded, Decided, ProperCommit, ProperRelation, ProperJoin, ProperMessage, ProperVerdict, ProperWitness}
 use Rattle.lova.specs.Tests.{short}
 use Rattle.lova.specs.Commit.{commitRules, instanceIn, commitIn}
 use Rattle.lova.specs.Relation.{Related, relationRules, ProductsAgree, CommitmentAgrees, memberWord, productsHold, commitmentHolds, relation}
 use Rattle.lova.specs.Join.{joinRules, joinedInstance, joinIn}
 use Rattle.lova.specs.Message.{messageRules, preparedIn, messageIn}
-use Rattle.lova.specs.Verdict.{Diagonals, FirstEquation, SecondEquation, verdictRules, foldedInstance, judgedIn, verdictIn}
+use Rattle.lova.specs.Verdict.{Diagonals, FirstEquation, SecondEquation, verdictRulesAs, verdictRules, foldedInstance, judgedIn, verdictAs, verdictIn}
+use Rattle.lova.specs.Squares.{squareD~, mirroredMessage, mirroredPrepared, squarePreparedIn, squareVerdictIn}
 use Rattle.lova.specs.Witness.{witnessRules, foldedWitness, witnessIn}
 use Rattle.lova.specs.Trees.{Tree, Proper, Held, HeldFits, Honest}
 use Rattle.lova.proofs.Tests.{long-iff}
@@ -26,6 +30,8 @@ use Rattle.lova.proofs.Refusals as Refusals
 use Rattle.lova.proofs.Refusals.{refused-by, done-ended, decides, commit-proper, relation-proper, join-proper, message-proper, verdict-proper, witness-proper}
 use Rattle.lova.proofs.Exact as Exact
 use Rattle.lova.proofs.FreshOutcomes as FreshOutcomes
+use Rattle.lova.proofs.Mirrored as Mirrored
+use Rattle.lova.proofs.Mirrored.{meant-symmetric, first-symmetric}
 use Rattle.lova.proofs.Honest.{honest, lent}
 
 via : {A B C : Type 0} → A ↔ B → B ↔ C → A ↔ C
@@ -52,7 +58,7 @@ module _ (p : Parameters) (f : Profile) where
   pub verdict-decided : (I₁ I₂ : Instance) (M : Message) (C : List ℕ) (out : Instance)
       → Decided (verdictIn p f I₁ I₂ M C out) out (judgedIn p f I₁ I₂ M C out)
       (afterSetting p (verdictRules p f I₁ I₂ M C out)) (ProperVerdict p f I₁ I₂ M C out)
-  unfolding verdictIn judgedIn verdictRules
+  unfolding verdictIn verdictAs verdictRulesAs
   verdict-decided I₁ I₂ M C out = decides out _ _ _ tt (Exact.verdict-ended p f I₁ I₂ M C out) (verdict-proper p f I₁ I₂ M C out)
 
   pub witness-decided : (S~ : List ℤ) (C : List ℕ) (out : List ℤ)
@@ -83,15 +89,15 @@ module _ (p : Parameters) (f : Profile) where
   message-8 A S₁ S₂ out = via (refused-by out _ done-ended _ 8 (λ z. omega arith)) (Refusals.message-8 p f A S₁ S₂ out)
 
   pub verdict-7 : (I₁ I₂ : Instance) (M : Message) (C : List ℕ) (out : Instance) → ((verdictIn p f I₁ I₂ M C out) .answer ≡ refused 7) ↔ ((settingRefusal p ≡ 0) × (VerdictLengths p f I₁ I₂ M C out → ⊥))
-  unfolding verdictIn judgedIn
+  unfolding verdictIn verdictAs
   verdict-7 I₁ I₂ M C out = via (refused-by out _ (Exact.verdict-ended p f I₁ I₂ M C out) _ 7 (λ z. omega arith)) (Refusals.verdict-7 p f I₁ I₂ M C out)
 
   pub verdict-9 : (I₁ I₂ : Instance) (M : Message) (C : List ℕ) (out : Instance) → ((verdictIn p f I₁ I₂ M C out) .answer ≡ refused 9) ↔ ((settingRefusal p ≡ 0) × VerdictLengths p f I₁ I₂ M C out × (Ternary p C → ⊥))
-  unfolding verdictIn judgedIn
+  unfolding verdictIn verdictAs
   verdict-9 I₁ I₂ M C out = via (refused-by out _ (Exact.verdict-ended p f I₁ I₂ M C out) _ 9 (λ z. omega arith)) (Refusals.verdict-9 p f I₁ I₂ M C out)
 
   pub verdict-10 : (I₁ I₂ : Instance) (M : Message) (C : List ℕ) (out : Instance) → ((verdictIn p f I₁ I₂ M C out) .answer ≡ refused 10) ↔ ((settingRefusal p ≡ 0) × VerdictLengths p f I₁ I₂ M C out × Ternary p C × (Bounded (columnsOf p f) (columnsOf p f) (HOf p) (sentD~ p f .read (M .D~)) → ⊥))
-  unfolding verdictIn judgedIn
+  unfolding verdictIn verdictAs
   verdict-10 I₁ I₂ M C out = via (refused-by out _ (Exact.verdict-ended p f I₁ I₂ M C out) _ 10 (λ z. omega arith)) (Refusals.verdict-10 p f I₁ I₂ M C out)
 
   pub witness-7 : (S~ : List ℤ) (C : List ℕ) (out : List ℤ) → ((witnessIn p f S~ C out) .answer ≡ refused 7) ↔ ((settingRefusal p ≡ 0) × (WitnessLengths p f S~ C out → ⊥))
@@ -109,12 +115,12 @@ module _ (p : Parameters) (f : Profile) where
   -- ---- demand 2: the verdict on a message from anyone, for a proper call
 
   module _ (I₁ I₂ : Instance) (M : Message) (C : List ℕ) (out : Instance) where
-    -- all that is fresh, repeated
+    -- all that is fresh, repeated, and what the message stands for
     abbrev R₂ : Instance
     R₂ = repeatedInstance p f I₂
 
-    abbrev R : Message
-    R = repeatedMessage p f M
+    abbrev R : Matrices
+    R = meant p f M
 
     -- whenever the answer is not yes, T' and D' are what they were; where it is yes, they are the folded instance
     pub verdict-writes : (verdictIn p f I₁ I₂ M C out ≡ ends «yes» (foldedInstance p R C)) ⊎ ((verdictIn p f I₁ I₂ M C out) .outputs ≡ out)
@@ -167,7 +173,39 @@ module _ (p : Parameters) where
       → witnessIn p Fresh S~ C out ≡ witnessIn p General (repeatedS~ p Fresh S~) C out
   witness-repeats S~ C out lengths = FreshOutcomes.witness-repeats p S~ C out lengths
 
--- ---- demands 1 and 2: the relation test; demand 3: the trees
+-- ---- request 3: D~ as a lower triangle is equal to the square form
+
+module _ (p : Parameters) (f : Profile) where
+  -- the verdict on a triangle is the verdict on its mirrored square, whatever else is lent: the answer, the refusals and the outputs
+  pub verdict-mirrored : (I₁ I₂ : Instance) (M : Message) (C : List ℕ) (out : Instance) → Fits (sentD~ p f) (M .D~)
+      → verdictIn p f I₁ I₂ M C out ≡ squareVerdictIn p f I₁ I₂ (mirroredMessage p f M) C out
+  verdict-mirrored I₁ I₂ M C out fits = Mirrored.verdict-mirrored p f I₁ I₂ M C out fits
+
+  -- honest messages correspond: as a whole, and D~ entry by entry
+  pub messages-correspond : (A : List ℕ) (S₁ S₂ : List ℤ) → mirroredPrepared p f (preparedIn p f A S₁ S₂) ≡ squarePreparedIn p f A S₁ S₂
+  messages-correspond A S₁ S₂ = Mirrored.messages-correspond p f A S₁ S₂
+
+  pub entries-correspond : (A : List ℕ) (S₁ S₂ : List ℤ)
+      → Agree (columnsOf p f) (columnsOf p f) (sentD~ p f .read (preparedIn p f A S₁ S₂ .message .D~)) (squareD~ p f .read (squarePreparedIn p f A S₁ S₂ .message .D~))
+  entries-correspond A S₁ S₂ = Mirrored.entries-correspond p f A S₁ S₂
+
+  -- a message's D~ is always symmetric
+  pub D~-symmetric : (M : Message) (i j : ℕ) → sentD~ p f .read (M .D~) i j ≡ sentD~ p f .read (M .D~) j i
+  D~-symmetric M i j = mirrored-symmetric (M .D~) i j
+
+  -- 10 over the stored entries is 10 over the square
+  pub stored-bounds : (D : List ℤ) → Fits (sentD~ p f) D
+      → Bounded (columnsOf p f) (columnsOf p f) (HOf p) (sentD~ p f .read D) ↔ ((x : ℕ) → x < length D → natAbs (getD D x (pos 0)) ≤ HOf p)
+  stored-bounds D fits = rw fits (mirrored-bounds (columnsOf p f) (HOf p) D)
+
+  -- so where D1 or D2 is not symmetric, and no diagonal entry exceeds B, the answer is norm
+  pub unsymmetric-is-norm : (I₁ I₂ : Instance) (M : Message) (C : List ℕ) (out : Instance) → ProperVerdict p f I₁ I₂ M C out → Diagonals p I₁ (repeatedInstance p f I₂)
+      → ((Symmetric (p .t) (matrixD p .read (I₁ .D)) × Symmetric (p .t) (matrixD p .read (repeatedInstance p f I₂ .D))) → ⊥)
+      → (verdictIn p f I₁ I₂ M C out) .answer ≡ norm
+  unsymmetric-is-norm I₁ I₂ M C out proper within uneven =
+      Exact.norm-exactly p f I₁ I₂ M C out proper .1 (within, λ first. uneven (first-symmetric p I₁ (repeatedInstance p f I₂) (meant p f M) (meant-symmetric p f M) first))
+
+-- ---- the relation test and the trees
 
 module _ (p : Parameters) where
   pub relation-decided : (A : List ℕ) (I : Instance) (S : List ℤ)

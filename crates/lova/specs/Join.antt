@@ -7,7 +7,7 @@ use Rattle.settings.specs.Settings.{Parameters}
 use Rattle.lova.specs.Answers.{afterSetting, done, Outcome, ends, unlessRefused}
 use Rattle.lova.specs.declared.Profile.{Profile}
 use Rattle.lova.specs.declared.Profile.the-variants.{General}
-use Rattle.lova.specs.Stored.{Instance, sentV, joinedT, joinedD}
+use Rattle.lova.specs.Stored.{Instance, matrixV, sentV, joinedT, joinedD}
 use Rattle.lova.specs.Repeats.{repeatedInstance, repeatedV}
 use Rattle.lova.specs.Tests.{fits, fitsInstance, fitsRight, fitsJoined}
 use Rattle.lova.specs.Fold.{besideT, blocksD}
@@ -20,7 +20,7 @@ joinRules p f I₁ I₂ «V» out =
 
 -- T = [T1 T2], D = [D1 V; V-transposed D2]
 unfoldable pub joinedInstance : Parameters → Instance → Instance → List ℤ → Instance
-joinedInstance p I₁ I₂ «V» = record { T = joinedT p .write (besideT p I₁ I₂); D = joinedD p .write (blocksD p I₁ I₂ «V») }
+joinedInstance p I₁ I₂ «V» = record { T = joinedT p .write (besideT p I₁ I₂); D = joinedD p .write (blocksD p I₁ I₂ (matrixV p .read «V»)) }
 
 unfoldable pub joinIn : Parameters → Profile → Instance → Instance → List ℤ → Instance → Outcome Instance
 joinIn p f I₁ I₂ «V» out =

@@ -11,5 +11,6 @@ pub mod Join
 pub mod Message
 pub mod Verdict
 pub mod Witness
+pub mod Squares
 pub mod Trees
 pub mod Points

@@ -10,7 +10,7 @@ use Rattle.settings.specs.Settings.{Parameters, kOf, NOf}
 use Rattle.lova.specs.declared.Profile.{Profile}
 use Rattle.lova.specs.declared.Profile.the-variants.{General, Fresh}
 use Rattle.lova.specs.Answers.{Outcome, ends}
-use Rattle.lova.specs.Stored.{Instance, Message, Prepared, rightOf, copiesFor, columnsOf, readC}
+use Rattle.lova.specs.Stored.{Stored, Instance, Message, Prepared, rightOf, copiesFor, columnsOf, matrixV, matrixT~, matrixD~, sentV, sentT~, sentD~, readC}
 
 -- the column of a fresh S~, T~ or D~ that stands in column c of the general one: the k columns of v's digits stand there t times
 unfoldable pub placeOf : ℕ → ℕ → ℕ → ℕ
@@ -45,7 +45,7 @@ module _ (p : Parameters) where
       record {
         «V» = repeatedV Fresh (M .«V»);
         T~ = table (p .n) (NOf p) (λ i c. entry 0 columns (M .T~) i (place c));
-        D~ = table (NOf p) (NOf p) (λ a c. entry (pos 0) columns (M .D~) (place a) (place c));
+        D~ = matrixD~ p .write (λ a c. sentD~ p Fresh .read (M .D~) (place a) (place c));
       }
 
   abbrev pub repeatedS~ : Profile → List ℤ → List ℤ
@@ -54,6 +54,27 @@ module _ (p : Parameters) where
 
   abbrev pub repeatedPrepared : Profile → Prepared → Prepared
   repeatedPrepared f o = record { message = repeatedMessage f (o .message); S~ = repeatedS~ f (o .S~) }
+
+-- V, T~ and D~ as the matrices of a general fold
+pub record Matrices : Type 0 where
+  pub «V» : Matrix
+  pub T~ : Matrix
+  pub D~ : Matrix
+
+module _ (p : Parameters) where
+  -- the matrices that a message stands for, with D~ stored in this form and all that is fresh repeated
+  abbrev pub meantAs : Profile → Stored ℤ → Message → Matrices
+  meantAs General form M = record { «V» = matrixV p .read (M .«V»); T~ = matrixT~ p .read (M .T~); D~ = form .read (M .D~) }
+  meantAs Fresh form M =
+      let place = placeOf (p .t) (kOf p) in
+      record {
+        «V» = λ i j. sentV p Fresh .read (M .«V») i 0;
+        T~ = λ i c. sentT~ p Fresh .read (M .T~) i (place c);
+        D~ = λ a c. form .read (M .D~) (place a) (place c);
+      }
+
+  abbrev pub meant : Profile → Message → Matrices
+  meant f M = meantAs f (sentD~ p f) M
 
 -- the outcome with its outputs made anew
 abbrev pub expanded : {X Y : Type 0} → (X → Y) → Outcome X → Outcome Y

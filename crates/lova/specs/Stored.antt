@@ -5,6 +5,7 @@ use lib.IntN.{ℤ}
 use Rattle.integers.specs.Residues.{word}
 use Rattle.matrices.specs.Matrices.{Matrix}
 use Rattle.matrices.specs.Tables.{table, unsigned, signed, challenge}
+use Rattle.matrices.specs.Triangles.{triangular, lower, mirrored}
 use Rattle.settings.specs.Settings.{Parameters, kOf, NOf}
 use Rattle.lova.specs.declared.Profile.{Profile}
 use Rattle.lova.specs.declared.Profile.the-variants.{General, Fresh}
@@ -22,6 +23,10 @@ words rows cols = record { size = rows * cols; read = unsigned cols; write = λ 
 -- signed 64-bit entries by rows: exact whole numbers
 abbrev pub wholes : ℕ → ℕ → Stored ℤ
 wholes rows cols = record { size = rows * cols; read = signed cols; write = λ X. table rows cols X }
+
+-- a symmetric matrix of such entries: its lower triangle by rows
+abbrev pub triangle : ℕ → Stored ℤ
+triangle n = record { size = triangular n; read = mirrored; write = lower n }
 
 module _ (p : Parameters) where
   -- A is n by m and T is n by t, unsigned
@@ -42,7 +47,7 @@ module _ (p : Parameters) where
   abbrev pub matrixV : Stored ℤ
   matrixV = wholes (p .t) (p .t)
 
-  -- the digit witness S~ is m by N, T~ is n by N, D~ is N by N; T~ is unsigned, the other two signed
+  -- the digit witness S~ is m by N, T~ is n by N, D~ is N by N and symmetric; T~ is unsigned, the other two signed
   abbrev pub matrixS~ : Stored ℤ
   matrixS~ = wholes (p .m) (NOf p)
 
@@ -50,7 +55,7 @@ module _ (p : Parameters) where
   matrixT~ = words (p .n) (NOf p)
 
   abbrev pub matrixD~ : Stored ℤ
-  matrixD~ = wholes (NOf p) (NOf p)
+  matrixD~ = triangle (NOf p)
 
   -- the joined T is n by 2t, the joined D is 2t by 2t
   abbrev pub joinedT : Stored ℕ
@@ -113,7 +118,7 @@ module _ (p : Parameters) (f : Profile) where
   abbrev pub rightD : Stored ℤ
   rightD = wholes (rightOf p f) (rightOf p f)
 
-  -- what is made of both witnesses: V has t entries, T~ and S~ have kt + k columns and D~ is square of that size
+  -- what is made of both witnesses: V has t entries, T~ and S~ have kt + k columns and D~ is a triangle of that size
   abbrev pub sentV : Stored ℤ
   sentV = wholes (p .t) (rightOf p f)
 
@@ -124,4 +129,4 @@ module _ (p : Parameters) (f : Profile) where
   sentT~ = words (p .n) (columnsOf p f)
 
   abbrev pub sentD~ : Stored ℤ
-  sentD~ = wholes (columnsOf p f) (columnsOf p f)
+  sentD~ = triangle (columnsOf p f)

@@ -51,8 +51,12 @@ fitsRight p f I = fits (rightT p f) (I .T) && fits (rightD p f) (I .D)
 abbrev pub fitsJoined : Parameters → Instance → Bool
 fitsJoined p I = fits (joinedT p) (I .T) && fits (joinedD p) (I .D)
 
+-- of a message with D~ stored in this form
+abbrev pub fitsMessageAs : Parameters → Profile → Stored ℤ → Message → Bool
+fitsMessageAs p f form M = fits (sentV p f) (M .«V») && fits (sentT~ p f) (M .T~) && fits form (M .D~)
+
 abbrev pub fitsMessage : Parameters → Profile → Message → Bool
-fitsMessage p f M = fits (sentV p f) (M .«V») && fits (sentT~ p f) (M .T~) && fits (sentD~ p f) (M .D~)
+fitsMessage p f M = fitsMessageAs p f (sentD~ p f) M
 
 abbrev pub fitsPrepared : Parameters → Profile → Prepared → Bool
 fitsPrepared p f o = fitsMessage p f (o .message) && fits (sentS~ p f) (o .S~)

@@ -2,26 +2,30 @@
 use mathlib.Core.Bool.{Bool, not, cond, _&&_}
 use mathlib.Core.List.{List, [], _∷_}
 use Prim.Native.Nat.{ℕ, _*_}
+use lib.IntN.{ℤ}
 use Rattle.integers.specs.Residues.{word}
 use Rattle.matrices.specs.Matrices.{product, bothSides, Agree}
 use Rattle.settings.specs.Rules.{Rule, _gives_, firstOf}
 use Rattle.settings.specs.Settings.{Parameters, NOf, HOf}
 use Rattle.lova.specs.declared.Profile.{Profile}
 use Rattle.lova.specs.declared.Profile.the-variants.{General}
-use Rattle.lova.specs.Repeats.{repeatedInstance, repeatedMessage}
+use Rattle.lova.specs.Repeats.{repeatedInstance, Matrices, meantAs}
 use Rattle.lova.specs.Answers.{afterSetting, «yes», long, norm, commitment, Outcome, ends, unlessRefused}
-use Rattle.lova.specs.Stored.{Instance, Message, matrixT, matrixD, matrixT~, matrixD~, columnsOf, sentD~, readC}
-use Rattle.lova.specs.Tests.{equal, equalWords, bounded, fitsInstance, fitsRight, fitsMessage, fitsC, diagonalWithin, areTernary}
+use Rattle.lova.specs.Stored.{Stored, Instance, Message, matrixT, matrixD, columnsOf, sentD~, readC}
+use Rattle.lova.specs.Tests.{equal, equalWords, bounded, fitsInstance, fitsRight, fitsMessageAs, fitsC, areTernary, diagonalWithin}
 use Rattle.lova.specs.Calls.{DiagonalWithin}
 use Rattle.lova.specs.Fold.{besideT, blocksD, gadget}
 
--- after 1 to 6: 7 for a length; 9 for a byte of C above 2; 10 for an entry of D~ above H or below −H
-unfoldable pub verdictRules : Parameters → Profile → Instance → Instance → Message → List ℕ → Instance → List Rule
-verdictRules p f I₁ I₂ M C out =
-    (not (fitsInstance p I₁ && fitsRight p f I₂ && fitsMessage p f M && fitsC p C && fitsInstance p out) gives 7)
+-- after 1 to 6: 7 for a length; 9 for a byte of C above 2; 10 for an entry of D~, stored in this form, above H or below −H
+unfoldable pub verdictRulesAs : Parameters → Profile → Stored ℤ → Instance → Instance → Message → List ℕ → Instance → List Rule
+verdictRulesAs p f form I₁ I₂ M C out =
+    (not (fitsInstance p I₁ && fitsRight p f I₂ && fitsMessageAs p f form M && fitsC p C && fitsInstance p out) gives 7)
     ∷ (not (areTernary p C) gives 9)
-    ∷ (not (bounded (columnsOf p f) (columnsOf p f) (HOf p) (sentD~ p f .read (M .D~))) gives 10)
+    ∷ (not (bounded (columnsOf p f) (columnsOf p f) (HOf p) (form .read (M .D~))) gives 10)
     ∷ []
+
+abbrev pub verdictRules : Parameters → Profile → Instance → Instance → Message → List ℕ → Instance → List Rule
+verdictRules p f I₁ I₂ M C out = verdictRulesAs p f (sentD~ p f) I₁ I₂ M C out
 
 module _ (p : Parameters) (I₁ I₂ : Instance) where
   -- no diagonal entry of D1 or D2 exceeds B
@@ -32,27 +36,27 @@ module _ (p : Parameters) (I₁ I₂ : Instance) where
   unfoldable pub diagonalsHold : Bool
   diagonalsHold = diagonalWithin p (I₁ .D) && diagonalWithin p (I₂ .D)
 
-module _ (p : Parameters) (I₁ I₂ : Instance) (M : Message) where
+module _ (p : Parameters) (I₁ I₂ : Instance) (X : Matrices) where
   -- the first equation: D recomposed from D~ by G on both sides equals D in whole numbers
   abbrev pub FirstEquation : Type 0
-  FirstEquation = Agree (2 * p .t) (2 * p .t) (bothSides (NOf p) (gadget p) (matrixD~ p .read (M .D~))) (blocksD p I₁ I₂ (M .«V»))
+  FirstEquation = Agree (2 * p .t) (2 * p .t) (bothSides (NOf p) (gadget p) (X .D~)) (blocksD p I₁ I₂ (X .«V»))
 
   -- the second equation: T~ G equals T modulo 2^64
   abbrev pub SecondEquation : Type 0
-  SecondEquation = Agree (p .n) (2 * p .t) (λ i j. word (product (NOf p) (matrixT~ p .read (M .T~)) (gadget p) i j)) (λ i j. word (besideT p I₁ I₂ i j))
+  SecondEquation = Agree (p .n) (2 * p .t) (λ i j. word (product (NOf p) (X .T~) (gadget p) i j)) (λ i j. word (besideT p I₁ I₂ i j))
 
   -- their tests
   unfoldable pub firstHolds : Bool
-  firstHolds = equal (2 * p .t) (2 * p .t) (bothSides (NOf p) (gadget p) (matrixD~ p .read (M .D~))) (blocksD p I₁ I₂ (M .«V»))
+  firstHolds = equal (2 * p .t) (2 * p .t) (bothSides (NOf p) (gadget p) (X .D~)) (blocksD p I₁ I₂ (X .«V»))
 
   unfoldable pub secondHolds : Bool
-  secondHolds = equalWords (p .n) (2 * p .t) (product (NOf p) (matrixT~ p .read (M .T~)) (gadget p)) (besideT p I₁ I₂)
+  secondHolds = equalWords (p .n) (2 * p .t) (product (NOf p) (X .T~) (gadget p)) (besideT p I₁ I₂)
 
 -- T' = T~ C modulo 2^64, D' = C-transposed D~ C
-unfoldable pub foldedInstance : Parameters → Message → List ℕ → Instance
-foldedInstance p M C = record {
-  T = matrixT p .write (product (NOf p) (matrixT~ p .read (M .T~)) (readC p C));
-  D = matrixD p .write (bothSides (NOf p) (readC p C) (matrixD~ p .read (M .D~)));
+unfoldable pub foldedInstance : Parameters → Matrices → List ℕ → Instance
+foldedInstance p X C = record {
+  T = matrixT p .write (product (NOf p) (X .T~) (readC p C));
+  D = matrixD p .write (bothSides (NOf p) (readC p C) (X .D~));
 }
 
 -- long where a diagonal entry exceeds B; else norm where the first equation fails, commitment where only the second fails, else
@@ -62,15 +66,22 @@ verdictBy within first second before after =
     cond (not within) (ends long before)
     (cond (not first) (ends norm before) (cond (not second) (ends commitment before) (ends «yes» after)))
 
+unfoldable pub judged : Parameters → Instance → Instance → Matrices → List ℕ → Instance → Outcome Instance
+judged p I₁ I₂ X C out = verdictBy (diagonalsHold p I₁ I₂) (firstHolds p I₁ I₂ X) (secondHolds p I₁ I₂ X) out (foldedInstance p X C)
+
 -- what is judged and folded is the general call's, with all that is fresh repeated
-unfoldable pub judgedIn : Parameters → Profile → Instance → Instance → Message → List ℕ → Instance → Outcome Instance
-judgedIn p f I₁ I₂ M C out =
-    let R₂ = repeatedInstance p f I₂ in
-    let R = repeatedMessage p f M in
-    verdictBy (diagonalsHold p I₁ R₂) (firstHolds p I₁ R₂ R) (secondHolds p I₁ R₂ R) out (foldedInstance p R C)
+abbrev pub judgedAs : Parameters → Profile → Stored ℤ → Instance → Instance → Message → List ℕ → Instance → Outcome Instance
+judgedAs p f form I₁ I₂ M C out = judged p I₁ (repeatedInstance p f I₂) (meantAs p f form M) C out
+
+unfoldable pub verdictAs : Parameters → Profile → Stored ℤ → Instance → Instance → Message → List ℕ → Instance → Outcome Instance
+verdictAs p f form I₁ I₂ M C out = unlessRefused (firstOf (afterSetting p (verdictRulesAs p f form I₁ I₂ M C out))) out (judgedAs p f form I₁ I₂ M C out)
+
+-- as it is sent: a triangle
+abbrev pub judgedIn : Parameters → Profile → Instance → Instance → Message → List ℕ → Instance → Outcome Instance
+judgedIn p f I₁ I₂ M C out = judgedAs p f (sentD~ p f) I₁ I₂ M C out
 
 unfoldable pub verdictIn : Parameters → Profile → Instance → Instance → Message → List ℕ → Instance → Outcome Instance
-verdictIn p f I₁ I₂ M C out = unlessRefused (firstOf (afterSetting p (verdictRules p f I₁ I₂ M C out))) out (judgedIn p f I₁ I₂ M C out)
+verdictIn p f I₁ I₂ M C out = verdictAs p f (sentD~ p f) I₁ I₂ M C out
 
 abbrev pub verdict : Parameters → Instance → Instance → Message → List ℕ → Instance → Outcome Instance
 verdict p I₁ I₂ M C out = verdictIn p General I₁ I₂ M C out

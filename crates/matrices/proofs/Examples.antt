@@ -8,6 +8,7 @@ use Rattle.integers.specs.Sums.{sum, sumℕ}
 use Rattle.integers.specs.Residues.{residue, word}
 use Rattle.matrices.specs.Matrices.{product, transposed, gram, bothSides, squaredLength}
 use Rattle.matrices.specs.Tables.{table, entry, unsigned, signed}
+use Rattle.matrices.specs.Triangles.{lower, mirrored}
 
 abbrev minus : ℕ → ℤ
 minus n = negℤ (pos n)
@@ -58,6 +59,15 @@ lengths = refl
 on-both-sides : table 2 2 (bothSides 2 (signed 2 C) (signed 2 D)) ≡ pos 0 ∷ minus 4 ∷ minus 2 ∷ pos 4 ∷ []
 unfolding table build sum
 on-both-sides = refl
+
+-- a lower triangle, of a matrix that is not symmetric, and the mirrored square that it stands for
+triangles : lower 3 (λ i j. pos (10 * i + j)) ≡ pos 0 ∷ pos 10 ∷ pos 11 ∷ pos 20 ∷ pos 21 ∷ pos 22 ∷ []
+unfolding lower build
+triangles = refl
+
+squares : table 3 3 (mirrored X) ≡ pos 1 ∷ minus 2 ∷ pos 0 ∷ minus 2 ∷ pos 3 ∷ pos 4 ∷ pos 0 ∷ pos 4 ∷ minus 1 ∷ []
+unfolding table build mirrored
+squares = refl
 
 -- a negative factor modulo 2^64: 3 times −5, and 2^63 times 2
 below-zero : word (product 1 (unsigned 1 (3 ∷ [])) (signed 1 (minus 5 ∷ [])) 0 0) ≡ 18446744073709551601

@@ -4,5 +4,6 @@ pub mod Ternary
 pub mod Bounds
 pub mod Elements
 pub mod Turns
+pub mod Triangles
 pub mod Examples
 pub mod Contracted

@@ -1,3 +1,4 @@
 pub mod Matrices
 pub mod Tables
+pub mod Triangles
 pub mod Elements

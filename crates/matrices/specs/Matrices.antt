@@ -41,3 +41,7 @@ sizes p X Y i j = sumℕ p (λ k. natAbs (X i k *ℤ Y k j))
 -- two matrices have the same entries in the first rows and columns
 abbrev pub Agree : {A : Type 0} → ℕ → ℕ → (ℕ → ℕ → A) → (ℕ → ℕ → A) → Type 0
 Agree rows cols X Y = (i j : ℕ) → i < rows → j < cols → X i j ≡ Y i j
+
+-- the first n rows and columns are a symmetric matrix
+abbrev pub Symmetric : ℕ → Matrix → Type 0
+Symmetric n X = Agree n n X (transposed X)

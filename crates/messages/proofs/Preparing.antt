@@ -9,8 +9,10 @@ use lib.ListN.{length}
 use Rattle.integers.specs.Residues.{word}
 use Rattle.matrices.specs.Matrices.{Matrix, product, transposed, gram, sizes, Agree}
 use Rattle.matrices.specs.Tables.{table, signed, unsigned}
+use Rattle.matrices.specs.Triangles.{triangular, lower}
 use Rattle.matrices.proofs.Matrices.{product-cong}
 use Rattle.matrices.proofs.Tables.{length-table, entry-table, table-cong}
+use Rattle.matrices.proofs.Triangles.{lower-cong}
 use Rattle.settings.specs.declared.Setting.{Setting}
 use Rattle.settings.specs.Settings.{Parameters, kOf, hOf, parametersOf}
 use Rattle.small_rows.specs.Small.{Within, SmallMatrix, SmallBlocks}
@@ -20,7 +22,7 @@ use Rattle.lova.specs.declared.Profile.the-variants.{General}
 use Rattle.lova.specs.Stored.{Prepared, rightFor, columnsOf}
 use Rattle.lova.specs.Calls.{Rebuilt, ProperMessage}
 use Rattle.lova.specs.Fold.{beside, digitWitness}
-use Rattle.lova.specs.Message.{preparedIn}
+use Rattle.lova.specs.Message.{preparedAs, preparedIn}
 use Rattle.lova.proofs.Gadget.{digit-size}
 use Rattle.lova.proofs.NeverWraps.{columns-fit}
 use Rattle.lova.proofs.Tests.{bounded-everywhere}
@@ -35,8 +37,8 @@ module _ (m w : ℕ) (X : Matrix) (S~ : List ℤ) (is : S~ ≡ table m w X) wher
   stored-commitment : (n : ℕ) (A : List ℕ) → table n w (λ i j. word (product m (unsigned m A) (signed w S~) i j)) ≡ table n w (λ i j. word (product m (unsigned m A) X i j))
   stored-commitment n A = table-cong 0 n w _ _ (λ i j hi hj. ap word (product-cong m (unsigned m A) (unsigned m A) (signed w S~) X i j (λ k h. refl) (λ k h. reads k j h hj)))
 
-  stored-gram : table w w (gram m (signed w S~)) ≡ table w w (gram m X)
-  stored-gram = table-cong (pos 0) w w _ _ (λ i j hi hj. product-cong m (transposed (signed w S~)) (transposed X) (signed w S~) X i j (λ k h. reads k i h hi) (λ k h. reads k j h hj))
+  stored-gram : lower w (gram m (signed w S~)) ≡ lower w (gram m X)
+  stored-gram = lower-cong w _ _ (λ i j hi hj. product-cong m (transposed (signed w S~)) (transposed X) (signed w S~) X i j (λ k h. reads k i h hi) (λ k h. reads k j h hj))
 
 -- `right` is what the profile gives: the columns of the second witness
 module _ (s : Setting) (whole : Rebuilt s) (f : Profile) (right : ℕ) (is : right ≡ rightFor (s .t) f) where
@@ -83,7 +85,7 @@ module _ (s : Setting) (whole : Rebuilt s) (f : Profile) (right : ℕ) (is : rig
           (bounded-everywhere (s .m) (columnsOf q f) (hOf q) S~ long (λ i j hi hj. rw (written, entry-table (pos 0) (s .m) (columnsOf q f) X i j hi hj) (digit-size q _ i j (rebuilt-accepted s whole .b-low))) i)
           (rebuilt-accepted s whole .digits-small)
 
-      pub gram-asks : SmallMatrix 32767 (s .m) wide S~ × SmallBlocks wide S~ × (s .m ≤ 4096) × (length (out .message .D~) ≡ wide * wide)
+      pub gram-asks : SmallMatrix 32767 (s .m) wide S~ × SmallBlocks wide S~ × (s .m ≤ 4096) × (length (out .message .D~) ≡ triangular wide)
       gram-asks =
           let w = wide-of s whole f right is in (
             record { long = rw w long; few = wide-few s whole f right is; small = λ i. omega (arith, small i) },
@@ -95,10 +97,10 @@ module _ (s : Setting) (whole : Rebuilt s) (f : Profile) (right : ℕ) (is : rig
       pub prepared-is : («V» : List ℤ) (T~ : List ℕ) (D~ : List ℤ)
           → «V» ≡ table (s .t) right (product (s .m) (transposed (signed (s .t) S₁)) (signed right S₂))
           → T~ ≡ table (s .n) wide (λ i j. word (product (s .m) (unsigned (s .m) A) (signed wide S~) i j))
-          → D~ ≡ table wide wide (gram (s .m) (signed wide S~))
+          → D~ ≡ lower wide (gram (s .m) (signed wide S~))
           → _≡_ {A = Prepared} (record { message = record { «V» = «V»; T~ = T~; D~ = D~ }; S~ = S~ }) (preparedIn q f A S₁ S₂)
-      unfolding preparedIn
-      prepared-is «V» T~ D~ v t d = whole-of crosses commitments squares written
+      unfolding preparedAs
+      prepared-is «V» T~ D~ v t d = whole-of crosses commitments triangles written
         where
           crosses : «V» ≡ table (s .t) (rightFor (s .t) f) (product (s .m) (transposed (signed (s .t) S₁)) (signed (rightFor (s .t) f) S₂))
           crosses = v ∙ ap (λ (r : ℕ). table (s .t) r (product (s .m) (transposed (signed (s .t) S₁)) (signed r S₂))) is
@@ -108,8 +110,8 @@ module _ (s : Setting) (whole : Rebuilt s) (f : Profile) (right : ℕ) (is : rig
               t ∙ ap (λ (w : ℕ). table (s .n) w (λ i j. word (product (s .m) (unsigned (s .m) A) (signed w S~) i j))) (wide-of s whole f right is)
               ∙ stored-commitment (s .m) (columnsOf q f) X S~ written (s .n) A
 
-          squares : D~ ≡ table (columnsOf q f) (columnsOf q f) (gram (s .m) X)
-          squares = d ∙ ap (λ (w : ℕ). table w w (gram (s .m) (signed w S~))) (wide-of s whole f right is) ∙ stored-gram (s .m) (columnsOf q f) X S~ written
+          triangles : D~ ≡ lower (columnsOf q f) (gram (s .m) X)
+          triangles = d ∙ ap (λ (w : ℕ). lower w (gram (s .m) (signed w S~))) (wide-of s whole f right is) ∙ stored-gram (s .m) (columnsOf q f) X S~ written
 
           whole-of : {v₁ v₂ d₁ d₂ s₁ s₂ : List ℤ} {t₁ t₂ : List ℕ} → v₁ ≡ v₂ → t₁ ≡ t₂ → d₁ ≡ d₂ → s₁ ≡ s₂
               → _≡_ {A = Prepared} (record { message = record { «V» = v₁; T~ = t₁; D~ = d₁ }; S~ = s₁ }) (record { message = record { «V» = v₂; T~ = t₂; D~ = d₂ }; S~ = s₂ })

@@ -47,7 +47,7 @@ pub(crate) fn fold() {
 fn message(setting: Setting, t1: &[u64], d1: &[i64], t2: &[u64], d2: &[i64]) {
     let mut v = [-222i64; 1];
     let mut tt = [111u64; 10];
-    let mut dd = [-222i64; 100];
+    let mut dd = [-222i64; 55];
     let mut ss = [-333i64; 10];
     let given = messages::message(
         setting,
@@ -72,7 +72,7 @@ fn verdicts(
     d2: &[i64],
     v: &[i64],
     tt: &[u64],
-    dd: [i64; 100],
+    dd: [i64; 55],
     ss: &[i64],
 ) {
     lines::message(given, v, tt, ss);

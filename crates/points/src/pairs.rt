@@ -82,7 +82,7 @@ fn committed(s: [i64; 4]) -> Instance {
 fn message(setting: Setting, t1: &[u64], d1: &[i64], t2: &[u64], d2: &[i64]) {
     let mut v = [-222i64; 4];
     let mut tt = [111u64; 16];
-    let mut dd = [-222i64; 256];
+    let mut dd = [-222i64; 136];
     let mut ss = [-333i64; 32];
     let given = messages::message(
         setting,
@@ -107,7 +107,7 @@ fn verdicts(
     d2: &[i64],
     v: &[i64],
     tt: &[u64],
-    dd: [i64; 256],
+    dd: [i64; 136],
     ss: &[i64],
 ) {
     let honest: &[i64] = &dd;
@@ -201,7 +201,7 @@ fn too_large(
     d2: &[i64],
     v: &[i64],
     tt: &[u64],
-    mut dd: [i64; 256],
+    mut dd: [i64; 136],
 ) {
     let c = [0; 32];
     let mut t = [111u64; 2];

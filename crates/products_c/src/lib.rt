@@ -6,6 +6,7 @@ ghost use Prim.Native.Nat.{_*_, _%_, _^_, _≤_};
 ghost use lib.ListN.{length};
 ghost use Rattle.matrices.specs.Matrices.{product, gram, bothSides};
 ghost use Rattle.matrices.specs.Tables.{table, residues, signed, unsigned, challenge};
+ghost use Rattle.matrices.specs.Triangles.{triangular, lower, mirrored};
 ghost use Rattle.small_rows.specs.Small.{Within, SmallMatrix, SmallBlocks};
 ghost use Rattle.small_rows.specs.Columns.{byColumns};
 
@@ -17,13 +18,12 @@ pub extern "C" fn product_word(x: u64, y: u64) -> u64
     integers::wrapping_mul(x, y)
 }
 
-// D~: the Gram matrix of s, an m by `cols` matrix.
+// D~: the Gram matrix of s, an m by `cols` matrix, as its lower triangle.
 #[no_mangle]
 pub extern "C" fn product_dd(s: &[i64], m: usize, cols: usize, out: &mut [i64])
     requires { ⌜ SmallMatrix 32767 m cols (now s) × SmallBlocks cols (now s) × (m ≤ 4096)
-        × (length (now out) ≡ cols * cols) ⌝ }
-    ensures { λ _. ⌜ now (out .exit)
-        ≡ table cols cols (gram m (signed cols (now (s .entry)))) ⌝ }
+        × (length (now out) ≡ triangular cols) ⌝ }
+    ensures { λ _. ⌜ now (out .exit) ≡ lower cols (gram m (signed cols (now (s .entry)))) ⌝ }
 {
     small_gram::small_gram(s, m, cols, out);
 }
@@ -50,13 +50,14 @@ pub extern "C" fn product_t(x: &[u64], q: &[i16], n: usize, cols: usize, t: usiz
     word_folds::fold_commitment(x, q, n, cols, t, out);
 }
 
-// D': c transposed times d times c, for a challenge c, n by t. T' beside it is that of no rows.
+// D': c transposed times D~ times c, for a challenge c, n by t, and the lower triangle d of D~. T' beside it is that of
+// no rows.
 #[no_mangle]
 pub extern "C" fn product_d(d: &[i64], c: &[u8], n: usize, t: usize, out: &mut [i64])
-    requires { ⌜ (length (now d) ≡ n * n) × Within (2 ^ 31) (now d) × (n ≤ 512) × (t ≤ 16)
+    requires { ⌜ (length (now d) ≡ triangular n) × Within (2 ^ 31) (now d) × (n ≤ 512) × (t ≤ 16)
         × (length (now c) ≡ n * t) × (length (now out) ≡ t * t) ⌝ }
     ensures { λ _. ⌜ now (out .exit)
-        ≡ table t t (bothSides n (challenge t (now (c .entry))) (signed n (now (d .entry)))) ⌝ }
+        ≡ table t t (bothSides n (challenge t (now (c .entry))) (mirrored (now (d .entry)))) ⌝ }
 {
     let tt = [0u64; 0];
     let mut none = [0u64; 0];

@@ -238,7 +238,7 @@ fn general_message(
 ) {
     let mut v = [-222i64; 4];
     let mut tt = [111u64; 64];
-    let mut dd = [-222i64; 256];
+    let mut dd = [-222i64; 136];
     let mut ss = [-333i64; 256];
     let given = messages::message(
         house(),
@@ -274,7 +274,7 @@ fn fresh_message(
 ) {
     let mut v = [-222i64; 2];
     let mut tt = [111u64; 48];
-    let mut dd = [-222i64; 144];
+    let mut dd = [-222i64; 78];
     let mut ss = [-333i64; 192];
     let given = messages::message(
         house(),
@@ -342,9 +342,9 @@ fn lengths(a: &[u64], repeated: &[i64], c: &[u8], t1: &[u64], d1: &[i64]) {
     let mut s = [-333i64; 32];
     lines::commit(house(), Profile::Fresh, a, repeated, &mut t, &mut d);
     lines::folded_witness(house(), Profile::Fresh, &[0; 256], c, &mut s);
-    judged(c, t1, d1, &[0; 4], &[0; 4], &[0; 2], &[0; 48], &[0; 144]);
-    judged(c, t1, d1, &[0; 4], &[0; 1], &[0; 4], &[0; 48], &[0; 144]);
-    judged(c, t1, d1, &[0; 4], &[0; 1], &[0; 2], &[0; 48], &[0; 256]);
+    judged(c, t1, d1, &[0; 4], &[0; 4], &[0; 2], &[0; 48], &[0; 78]);
+    judged(c, t1, d1, &[0; 4], &[0; 1], &[0; 4], &[0; 48], &[0; 78]);
+    judged(c, t1, d1, &[0; 4], &[0; 1], &[0; 2], &[0; 48], &[0; 136]);
 }
 
 // The fresh verdict on these.

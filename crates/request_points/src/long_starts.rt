@@ -36,7 +36,7 @@ fn fold(s1: [i64; 1], s2: [i64; 1]) {
 fn message(s1: &[i64], s2: &[i64], t1: &[u64], d1: &[i64], t2: &[u64], d2: &[i64]) {
     let mut v = [-222i64; 1];
     let mut tt = [111u64; 10];
-    let mut dd = [-222i64; 100];
+    let mut dd = [-222i64; 55];
     let mut ss = [-333i64; 10];
     let given = messages::message(
         bounded(121),
@@ -54,7 +54,7 @@ fn message(s1: &[i64], s2: &[i64], t1: &[u64], d1: &[i64], t2: &[u64], d2: &[i64
 }
 
 // With another D1 the first equation fails, so that a long one could be called norm; 10 and 9 come before long.
-fn verdicts(t1: &[u64], d1: &[i64], t2: &[u64], d2: &[i64], v: &[i64], tt: &[u64], dd: [i64; 100]) {
+fn verdicts(t1: &[u64], d1: &[i64], t2: &[u64], d2: &[i64], v: &[i64], tt: &[u64], dd: [i64; 55]) {
     judged(100, t1, d1, t2, d2, v, tt, &dd);
     judged(120, t1, d1, t2, d2, v, tt, &dd);
     judged(121, t1, d1, t2, d2, v, tt, &dd);
@@ -103,7 +103,7 @@ fn other(
     d2: &[i64],
     v: &[i64],
     tt: &[u64],
-    dd: [i64; 100],
+    dd: [i64; 55],
     last: i64,
     byte: u8,
 ) {

@@ -2,6 +2,7 @@
 // `stdout`. No contract can say what is written, so the functions here promise only that they are safe and end.
 mod fresh_folds;
 mod long_starts;
+mod triangles;
 
 use shown::print;
 
@@ -10,4 +11,6 @@ fn main() {
     long_starts::points();
     print::text(b"Request 2: a fresh witness\n");
     fresh_folds::points();
+    print::text(b"Request 3: D~ as a lower triangle\n");
+    triangles::points();
 }

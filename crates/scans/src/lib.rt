@@ -3,12 +3,13 @@ ghost use mathlib.Core.Path.{_≡_};
 ghost use mathlib.Core.Bool.{_&&_};
 ghost use Prim.Native.Nat.{_*_};
 ghost use lib.Dec.{leb};
-ghost use lib.ListN.{length};
+ghost use lib.IntN.{pos, natAbs};
+ghost use lib.ListN.{length, getD};
 ghost use Rattle.matrices.specs.Matrices.{squaredLength};
 ghost use Rattle.matrices.specs.Tables.{entry, signed};
 ghost use Rattle.settings.specs.Settings.{parametersOf};
 ghost use Rattle.lova.specs.Lent.{instanceBefore, messageBefore};
-ghost use Rattle.lova.specs.Tests.{all, every, bounded, fitsRight, fitsMessage};
+ghost use Rattle.lova.specs.Tests.{all, every, fitsRight, fitsMessage};
 ghost use Rattle.lova.specs.Calls.{Rebuilt};
 use lova::Profile;
 use settings::Setting;
@@ -43,10 +44,10 @@ pub fn are_ternary(c: &[u8], rows: usize, cols: usize) -> bool
     true
 }
 
-// Whether each entry of x is at most `limit` in size.
-pub fn entries_within(x: &[i64], rows: usize, cols: usize, limit: u64) -> bool
-    requires { ⌜ length (now x) ≡ rows * cols ⌝ }
-    ensures { λ r. ⌜ r ≡ bounded rows cols limit (signed cols (now (x .entry))) ⌝ }
+// Whether each number of x is at most `limit` in size.
+pub fn entries_within(x: &[i64], limit: u64) -> bool
+    ensures { λ r. ⌜ r
+        ≡ all (length (now (x .entry))) (λ i. leb (natAbs (getD (now (x .entry)) i (pos 0))) limit) ⌝ }
 {
     let mut i: usize = 0;
     while i < x.len() {
@@ -82,5 +83,5 @@ pub fn message_fits(setting: Setting, profile: Profile, v: &[i64], tt: &[u64], d
     let right = profile.right(setting.t);
     let wide = (setting.t + right) * setting.k;
     let first = both(v.len() == setting.t * right, tt.len() == setting.n * wide);
-    both(first, dd.len() == wide * wide)
+    both(first, dd.len() == wide * (wide + 1) / 2)
 }

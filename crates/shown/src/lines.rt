@@ -80,13 +80,13 @@ pub fn spoiled(
     d2: &[i64],
     v: &[i64],
     tt: &[u64],
-    mut dd: [i64; 100],
+    mut dd: [i64; 55],
     last: i64,
     byte: u8,
 ) {
     print::signed(b"D~ ends in ", last);
     print::number(b" and C in ", byte as u64);
-    dd[99] = last;
+    dd[54] = last;
     let mut c = [0u8; 10];
     c[9] = byte;
     let mut t = [111u64; 1];

@@ -85,9 +85,8 @@ fn verdict_refusal(
     if !scans::are_ternary(c, setting.columns, setting.t) {
         return 9;
     }
-    let wide = (setting.t + profile.right(setting.t)) * setting.k;
     let h = setting.b / 2;
-    if !scans::entries_within(dd, wide, wide, h * h * (setting.m as u64)) {
+    if !scans::entries_within(dd, h * h * (setting.m as u64)) {
         return 10;
     }
     0

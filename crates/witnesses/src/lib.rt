@@ -42,9 +42,7 @@ fn witness_refusal(setting: Setting, profile: Profile, ss: &[i64], c: &[u8], s: 
     if !scans::are_ternary(c, setting.columns, setting.t) {
         return 9;
     }
-    let right = profile.right(setting.t);
-    let wide = (setting.t + right) * setting.k;
-    if !scans::entries_within(ss, setting.m, wide, setting.b / 2) {
+    if !scans::entries_within(ss, setting.b / 2) {
         return 11;
     }
     0

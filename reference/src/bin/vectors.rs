@@ -58,10 +58,15 @@ fn random_setting(rng: &mut Rng) -> Parameters {
     }
 }
 
-/// A matrix by rows: name, shape, entries.
-fn print_matrix<T: ToString>(name: &str, rows: usize, entries: &[T]) {
+/// Entries: name, shape, the entries themselves.
+fn print_entries<T: ToString>(name: &str, shape: &str, entries: &[T]) {
     let text: Vec<String> = entries.iter().map(T::to_string).collect();
-    println!("  {name} {rows}x{} = [{}]", entries.len() / rows, text.join(", "));
+    println!("  {name} {shape} = [{}]", text.join(", "));
+}
+
+/// A matrix by rows.
+fn print_matrix<T: ToString>(name: &str, rows: usize, entries: &[T]) {
+    print_entries(name, &format!("{rows}x{}", entries.len() / rows), entries);
 }
 
 /// What goes into a fold: A, the nodes, the message and the challenge.
@@ -108,7 +113,7 @@ fn print_inputs(x: &Inputs) {
     print_matrix("V", t, &sent.v);
     print_matrix("S~", m, &sent.ss);
     print_matrix("T~", n, &sent.tt);
-    print_matrix("D~", sent.ss.len() / m, &sent.dd);
+    print_entries("D~", &format!("triangle of {} rows", sent.ss.len() / m), &sent.dd);
 }
 
 /// The joined instance, the verdict and the folded node.

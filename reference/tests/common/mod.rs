@@ -87,7 +87,12 @@ pub fn joined_entry(t: usize, left: &Node, right: &Node, v: &[i64], i: usize, j:
     word as i128
 }
 
-/// The answer that the diagonals and the two equations call for, worked out entry by entry.
+/// Where entry (i, j) of a symmetric matrix stands in its lower triangle by rows, said by cases.
+pub fn place(i: usize, j: usize) -> usize {
+    if j <= i { i * (i + 1) / 2 + j } else { j * (j + 1) / 2 + i }
+}
+
+/// The answer that the diagonals and the two equations call for, worked out entry by entry; D~ is a triangle.
 pub fn by_entries(p: &Parameters, left: &Node, right: &Node, v: &[i64], tt: &[u64], dd: &[i64]) -> &'static str {
     let (n, t, k) = (p.n as usize, p.t as usize, p.k() as usize);
     let columns = 2 * k * t;
@@ -100,7 +105,7 @@ pub fn by_entries(p: &Parameters, left: &Node, right: &Node, v: &[i64], tt: &[u6
             for e in 0..k {
                 for f in 0..k {
                     let power = (p.b as i128).pow((e + f) as u32);
-                    sum += power * dd[(i * k + e) * columns + j * k + f] as i128;
+                    sum += power * dd[place(i * k + e, j * k + f)] as i128;
                 }
             }
             if sum != joined_entry(t, left, right, v, i, j) {

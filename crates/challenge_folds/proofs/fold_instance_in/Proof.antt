@@ -5,7 +5,8 @@ use Prim.Native.Nat.{_+_}
 use native.Mathlib.Omega.{arith}
 use lib.IntN.{ℤ}
 use Rattle.matrices.specs.Matrices.{contracted}
-use Rattle.matrices.specs.Tables.{signed, unsigned, challenge}
+use Rattle.matrices.specs.Tables.{unsigned, challenge}
+use Rattle.matrices.specs.Triangles.{mirrored}
 use Rattle.challenge_folds.proofs.Folds.{words-same, gram-same}
 use Rattle.challenge_folds.proofs.fold_instance_in.Statement.{statement}
 use Rattle.challenge_folds.proofs.fold_instance_in.Tie as tie
@@ -57,7 +58,7 @@ returns c =
     let «C» = contracted (a .left) (a .block) (a .copies) (challenge (a .cols) (a .c .now)) in
     let same = d .decode .ensures .0 in (
       words-same rows (a .cols) (decoded d) «C» same (a .n) (unsigned rows (a .tt .now)) _ (w .fold-commitment .ensures),
-      gram-same rows (a .cols) (decoded d) «C» same (signed rows (a .dd .now)) _ (c .before .fold-gram .ensures),
+      gram-same rows (a .cols) (decoded d) «C» same (mirrored (a .dd .now)) _ (c .before .fold-gram .ensures),
     )
 
 pub fold-instance-in-spec : {M : Type 1} → statement M

@@ -164,7 +164,7 @@ add-four-products-requires c κs =
         four-size (a .m) (a .cols) k (a .y .now) (four t) (s .pre .0 .1),
         l .loop .inv .1,
       ),
-      crossed-four-room (a .rows) (a .cols) (a .x .now) (a .y .now) k (l .loop .out) (l .loop .inv .2)
+      crossed-four-room (a .rows) (a .cols) (a .x .now) (a .y .now) k (signed (a .cols) (l .loop .out)) (l .loop .inv .2)
           (a .m) (s .pre .1) (four t),
     )
 
@@ -182,8 +182,8 @@ loop-again c =
     let r = c .before .add-four-products in (
       four t,
       r .kept .1 .1 .1 .1 .0 ∙ l .loop .inv .1,
-      crossed-four (a .rows) (a .cols) (a .x .now) (a .y .now) (l .loop .k) (l .loop .out) (l .loop .inv .2)
-          (r .last .1 .1 .1 .1 .0) (r .ensures),
+      crossed-four (a .rows) (a .cols) (a .x .now) (a .y .now) (l .loop .k) (signed (a .cols) (l .loop .out))
+          (l .loop .inv .2) (signed (a .cols) (r .last .1 .1 .1 .1 .0)) (r .ensures),
     )
 
 add-to-2 : tie.Need-add-to-2 Inv-loop μ-loop
@@ -229,7 +229,7 @@ add-products-requires c κs =
         row-long (a .m) (a .cols) k (a .y .now) (s .pre .0 .1) h,
         l .loop .inv .1,
       ),
-      crossed-room (a .rows) (a .cols) (a .x .now) (a .y .now) k (l .loop .out) (l .loop .inv .2) (a .m) (s .pre .1) h,
+      crossed-room (a .rows) (a .cols) (a .x .now) (a .y .now) k (signed (a .cols) (l .loop .out)) (l .loop .inv .2) (a .m) (s .pre .1) h,
     )
 
 add-k-2 : tie.Need-add-k-2 Inv-loop μ-loop
@@ -246,8 +246,8 @@ loop-again-2 c =
     let r = c .before .add-products in (
       omega (arith, t .loop-test .taken),
       r .kept .1 .1 .1 .1 .0 ∙ l .loop .inv .1,
-      crossed-more (a .rows) (a .cols) (a .x .now) (a .y .now) (l .loop .k) (l .loop .out) (l .loop .inv .2)
-          (r .last .1 .1 .1 .1 .0) (r .ensures),
+      crossed-more (a .rows) (a .cols) (a .x .now) (a .y .now) (l .loop .k) (signed (a .cols) (l .loop .out))
+          (l .loop .inv .2) (signed (a .cols) (r .last .1 .1 .1 .1 .0)) (r .ensures),
     )
 
 same-length : tie.Need-same-length Inv-loop μ-loop

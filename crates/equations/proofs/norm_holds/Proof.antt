@@ -1,4 +1,4 @@
--- `equations::norm_holds` meets its contract: the entries before (i, j) are equal.
+-- `equations::norm_holds` meets its contract: the entries before (i, j) are equal, and so are their mirror images.
 use borrow.Author.Needs.{needs}
 use mathlib.Core.Path.{_≡_, refl, _∙_, ap}
 use mathlib.Core.Bool.{true}
@@ -6,18 +6,18 @@ use mathlib.Core.List.{List}
 use Prim.Native.Nat.{ℕ, _+_, _-_, _*_, _≤_}
 use native.Mathlib.Omega.{arith}
 use lib.IntN.{ℤ}
-use Rattle.matrices.specs.Matrices.{Matrix, bothSides}
+use Rattle.matrices.specs.Matrices.{Matrix, bothSides, Symmetric}
+use Rattle.matrices.specs.Triangles.{mirrored}
+use Rattle.matrices.proofs.Triangles.{mirrored-symmetric, bothSides-symmetric}
 use Rattle.settings.specs.Settings.{Parameters, parametersOf}
 use Rattle.lova.specs.declared.Profile.{Profile}
 use Rattle.lova.specs.Stored.{columnsOf, matrixD, rightD, sentV, sentD~}
 use Rattle.lova.specs.Fold.{blocks, gadget}
-use Rattle.lova.specs.Tests.{eqZ, equal}
-use Rattle.lova.proofs.Tests.{eqZ-iff}
-use Rattle.lova.proofs.Comparisons.{EqualBefore, equal-none, equal-row, equal-all}
+use Rattle.lova.specs.Tests.{equal}
 use Rattle.lova.proofs.Rebuilding.{rebuilt-accepted}
-use Rattle.lova.proofs.Widths.{right-high, wide-high}
+use Rattle.lova.proofs.Widths.{right-high}
 use Rattle.equations.specs.Blocks.{Handed}
-use Rattle.equations.proofs.Compared.{goes-on, stops}
+use Rattle.equations.proofs.Compared.{BothBefore, both-none, both-more, both-row, both-all, both-stops}
 use Rattle.equations.proofs.Recomposed.{handed}
 use Rattle.equations.proofs.norm_holds.Statement.{statement}
 use Rattle.equations.proofs.norm_holds.Tie as tie
@@ -30,21 +30,21 @@ abbrev joined : Parameters → Profile → List ℤ → List ℤ → List ℤ �
 joined p f d1 v d2 = blocks (p .t) (matrixD p .read d1) (sentV p f .read v) (rightD p f .read d2)
 
 -- their entries before (i, j) are equal, in the setting and the profile that the numbers are of
-abbrev Equal : List ℤ → List ℤ → List ℤ → List ℤ → List ℕ → ℕ → ℕ → ℕ → ℕ → ℕ → ℕ → Type 0
-Equal d1 v d2 dd powers k t right columns i j =
-    (p : Parameters) (f : Profile) → Handed p f t right k columns powers → EqualBefore (t + right) (recomposed p f dd) (joined p f d1 v d2) i j
+abbrev Equal : List ℤ → List ℤ → List ℤ → List ℤ → List ℕ → ℕ → ℕ → ℕ → ℕ → ℕ → Type 0
+Equal d1 v d2 dd powers k t right i j =
+    (p : Parameters) (f : Profile) → Handed p f t right k ((t + right) * k) powers → BothBefore (recomposed p f dd) (joined p f d1 v d2) i j
 
 abbrev Inv-loop : tie.InvT-loop
-Inv-loop d1 v d2 dd powers k t right wide columns equal₀ i j₀ equal j = (equal ≡ true) × Equal d1 v d2 dd powers k t right columns i j
+Inv-loop d1 v d2 dd powers k t right wide equal₀ i j₀ equal j = (equal ≡ true) × Equal d1 v d2 dd powers k t right i j
 
 abbrev μ-loop : tie.MeasureT-loop
-μ-loop d1 v d2 dd powers k t right wide columns equal₀ i j₀ equal j = wide - j
+μ-loop d1 v d2 dd powers k t right wide equal₀ i j₀ equal j = i + 1 - j
 
 abbrev Inv-rows : tie.InvT-rows
-Inv-rows d1 v d2 dd powers k t right wide columns equal₀ i₀ equal i = (equal ≡ true) × Equal d1 v d2 dd powers k t right columns i 0
+Inv-rows d1 v d2 dd powers k t right wide equal₀ i₀ equal i = (equal ≡ true) × Equal d1 v d2 dd powers k t right i 0
 
 abbrev μ-rows : tie.MeasureT-rows
-μ-rows d1 v d2 dd powers k t right wide columns equal₀ i₀ equal i = wide - i
+μ-rows d1 v d2 dd powers k t right wide equal₀ i₀ equal i = wide - i
 
 -- what follows from the profile
 module _ (c : tie.After-right Inv-loop μ-loop Inv-rows μ-rows) where
@@ -57,17 +57,17 @@ module _ (c : tie.After-right Inv-loop μ-loop Inv-rows μ-rows) where
   given : let s = start .args .setting in Handed (parametersOf s) (start .args .profile) (s .t) (c .right .result) (s .k) (across * s .k) (s .powers)
   given = handed (start .pre .0 .0) (c .right .ensures)
 
-  -- the matrices that are compared have at most 32 columns, and D~ has at most 512
+  -- the matrices that are compared have at most 32 columns
   narrow : across ≤ 32
   narrow =
       let acc = rebuilt-accepted (start .args .setting) (start .pre .0 .0) in
       omega (arith, c .right .ensures, right-high (start .args .setting .t) (start .args .profile) (acc .t-low), acc .t-high)
 
-  few : across * start .args .setting .k ≤ 512
-  few = rw (given .wide-is) (wide-high (start .args .setting) (start .pre .0 .0) (start .args .profile))
-
   abbrev X : Matrix
   X = recomposed (parametersOf (start .args .setting)) (start .args .profile) (start .args .dd .now)
+
+  sides : Symmetric across X
+  sides i j hi hj = bothSides-symmetric _ (gadget (parametersOf (start .args .setting))) (mirrored (start .args .dd .now)) i j (λ a b ha hb. mirrored-symmetric (start .args .dd .now) a b)
 
   abbrev Y : Matrix
   Y = joined (parametersOf (start .args .setting)) (start .args .profile) (start .args .d1 .now) (start .args .v .now) (start .args .d2 .now)
@@ -82,11 +82,8 @@ right-requires c κs = search needs
 add-wide : tie.Need-add-wide Inv-loop μ-loop Inv-rows μ-rows
 add-wide c = omega (arith, narrow c)
 
-mul-columns : tie.Need-mul-columns Inv-loop μ-loop Inv-rows μ-rows
-mul-columns c = omega (arith, few c)
-
 rows-holds : tie.Need-rows-holds Inv-loop μ-loop Inv-rows μ-rows
-rows-holds c = (refl, λ p f h. equal-none _ _ _)
+rows-holds c = (refl, λ p f h. both-none _ _)
 
 loop-holds : tie.Need-loop-holds Inv-loop μ-loop Inv-rows μ-rows
 loop-holds c = c .before .rows .inv
@@ -112,7 +109,7 @@ loop-again : tie.Need-loop-again Inv-loop μ-loop Inv-rows μ-rows
 loop-again c =
     let l = c .before .before .before .before in (
       l .loop .inv .0,
-      λ p f h. goes-on (across (from-loop l)) _ _ eqZ eqZ-iff (l .before .before .rows .i) (l .loop .j) _ (c .before .block-equals .ensures p f h) (c .if1 .left) (l .loop .inv .1 p f h),
+      λ p f h. both-more _ _ (l .before .before .rows .i) (l .loop .j) _ (c .before .block-equals .ensures p f h) (c .if1 .left) (l .loop .inv .1 p f h),
     )
 
 add-i : tie.Need-add-i Inv-loop μ-loop Inv-rows μ-rows
@@ -124,7 +121,7 @@ rows-less c = search needs
 rows-again : tie.Need-rows-again Inv-loop μ-loop Inv-rows μ-rows
 rows-again c =
     let l = c .before in
-    (l .loop .inv .0, λ p f h. equal-row (across (from-loop l)) _ _ (l .before .before .rows .i) (l .loop .j) (omega arith) (l .loop .inv .1 p f h))
+    (l .loop .inv .0, λ p f h. both-row _ _ (l .before .before .rows .i) (l .loop .j) (omega arith) (l .loop .inv .1 p f h))
 
 returns : tie.Need-returns Inv-loop μ-loop Inv-rows μ-rows
 returns c =
@@ -132,7 +129,7 @@ returns c =
     let s = start r in
     let i = c .before .rows in
     i .inv .0
-    ∙ equal-all (across r) (X r) (Y r) eqZ eqZ-iff (across r) (i .i) (omega arith) (i .inv .1 _ _ (given r))
+    ∙ both-all (X r) (Y r) (across r) (sides r) (i .i) (omega arith) (i .inv .1 _ _ (given r))
     ∙ ap (λ (n : ℕ). equal (s .args .setting .t + n) (s .args .setting .t + n) (X r) (Y r)) (r .right .ensures)
 
 returns-2 : tie.Need-returns-2 Inv-loop μ-loop Inv-rows μ-rows
@@ -140,7 +137,7 @@ returns-2 c =
     let l = c .before .before .before .before in
     let r = from-loop l in
     let s = start r in
-    stops (across r) (X r) (Y r) eqZ eqZ-iff (l .before .before .rows .i) (l .loop .j) _ (c .before .block-equals .ensures _ _ (given r)) (across r) (l .before .rows-test .taken) (c .before .before .before .loop-test .taken) (c .if1 .taken)
+    both-stops (X r) (Y r) (across r) (sides r) (l .before .before .rows .i) (l .loop .j) (l .before .rows-test .taken) (c .before .before .before .loop-test .taken) _ (c .before .block-equals .ensures _ _ (given r)) (c .if1 .taken)
     ∙ ap (λ (n : ℕ). equal (s .args .setting .t + n) (s .args .setting .t + n) (X r) (Y r)) (r .right .ensures)
 
 pub norm-holds-spec : {M : Type 1} → statement M
@@ -153,7 +150,6 @@ norm-holds-spec =
     μ-rows
     right-requires
     add-wide
-    mul-columns
     rows-holds
     loop-holds
     slice-aggregate-block-equals

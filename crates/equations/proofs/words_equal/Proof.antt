@@ -4,7 +4,6 @@ use mathlib.Core.Path.{sym, _∙_, ap, ap₂}
 use Prim.Native.Nat.{ℕ, _+_, _*_, _^_, _≤_}
 use native.Mathlib.Omega.{arith}
 use lib.Dec.{eqb}
-use lib.IntN.{pos}
 use lib.ListN.{length}
 use Rattle.integers.specs.Residues.{word}
 use Rattle.integers.proofs.Residues.{residue-small}
@@ -45,7 +44,7 @@ returns c p f h =
     let x = c .before .weighted-words in
     let y = c .joined-t in
     ap₂ eqb
-    (x .ensures ∙ ap word (block-sum h pos 0 (a .tt .now) (a .i) (a .j) (s .pre .1 .3)))
+    (x .ensures ∙ ap word (block-sum h (a .tt .now) (a .i) (a .j) (s .pre .1 .3)))
     (sym (residue-small (2 ^ 64) (y .result) (y .ok))
     ∙ ap word (y .ensures ∙ ap₂ (λ (t r : ℕ). beside t (unsigned t (a .t1 .now)) (unsigned r (a .t2 .now)) (a .i) (a .j)) (h .t-is) (h .right-is)))
 

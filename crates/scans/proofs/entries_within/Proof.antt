@@ -11,7 +11,7 @@ use lib.IntN.{ℤ, pos, natAbs}
 use lib.ListN.{length, getD}
 use mir.Syntax.{w64}
 use mir.ValLaws.{toZ-ofZ}
-use Rattle.scans.proofs.Scans.{Passed, scan-none, scan-more, scan-stop, scan-end, all-entries}
+use Rattle.scans.proofs.Scans.{Passed, scan-none, scan-more, scan-stop, scan-end}
 use Rattle.scans.proofs.entries_within.Statement.{statement}
 use Rattle.scans.proofs.entries_within.Tie as tie
 
@@ -20,10 +20,10 @@ abbrev small : List ℤ → ℕ → ℕ → Bool
 small x limit i = leb (natAbs (getD x i (pos 0))) limit
 
 abbrev Inv-loop : tie.InvT-loop
-Inv-loop x rows cols limit i₀ i = Passed (length x) (small x limit) i
+Inv-loop x limit i₀ i = Passed (length x) (small x limit) i
 
 abbrev μ-loop : tie.MeasureT-loop
-μ-loop x rows cols limit i₀ i = length x - i
+μ-loop x limit i₀ i = length x - i
 
 loop-holds : tie.Need-loop-holds Inv-loop μ-loop
 loop-holds c = scan-none _ _
@@ -50,7 +50,6 @@ returns c =
     let l = c .before .before .before .before in
     let a = l .before .args in
     scan-stop (length (a .x .now)) (small (a .x .now) (a .limit)) (l .loop .i) (omega arith) (lt-leb _ (a .limit) (omega (arith, size-is (c .before))))
-    ∙ all-entries (length (a .x .now)) (a .rows) (a .cols) (small (a .x .now) (a .limit)) (l .before .pre)
 
 add-i : tie.Need-add-i Inv-loop μ-loop
 add-i c = search needs
@@ -69,7 +68,6 @@ returns-2 c =
     let l = c .before in
     let a = l .before .args in
     scan-end (length (a .x .now)) (small (a .x .now) (a .limit)) (l .loop .i) (omega arith) (l .loop .inv)
-    ∙ all-entries (length (a .x .now)) (a .rows) (a .cols) (small (a .x .now) (a .limit)) (l .before .pre)
 
 pub entries-within-spec : {M : Type 1} → statement M
 entries-within-spec =

@@ -7,6 +7,7 @@ use native.Mathlib.Omega.{arith}
 use native.Mathlib.Nat.{mul-le-mul}
 use lib.Dec.{eqb}
 use lib.ListN.{length}
+use Rattle.matrices.specs.Triangles.{triangular}
 use Rattle.lova.proofs.Rebuilding.{rebuilt-accepted}
 use Rattle.lova.proofs.Widths.{right-few, wide-of, wide-few}
 use Rattle.scans.proofs.message_fits.Statement.{statement}
@@ -55,10 +56,14 @@ mul-both-2 c =
 both-requires : tie.Need-both-requires
 both-requires c κs = search needs
 
+add-both : tie.Need-add-both
+add-both c = omega (arith, narrow (c .before .before .before .before .before))
+
 mul-both-3 : tie.Need-mul-both-3
 mul-both-3 c =
     let r = c .before .before .before .before .before in
-    omega (arith, mul-le-mul (narrow r) (narrow r))
+    let more : wide r + 1 ≤ 513 = omega (arith, narrow r) in
+    omega (arith, mul-le-mul (narrow r) more)
 
 both-requires-2 : tie.Need-both-requires-2
 both-requires-2 c κs = search needs
@@ -69,8 +74,8 @@ returns c =
     let s = start r in
     let a = s .args in
     c .both2 .ensures
-    ∙ ap (λ (x : Bool). x && eqb (length (a .dd .now)) (wide r * wide r)) (c .before .both .ensures)
-    ∙ ap₂ (λ (right wide : ℕ). eqb (length (a .v .now)) (a .setting .t * right) && eqb (length (a .tt .now)) (a .setting .n * wide) && eqb (length (a .dd .now)) (wide * wide))
+    ∙ ap (λ (x : Bool). x && eqb (length (a .dd .now)) (triangular (wide r))) (c .before .both .ensures)
+    ∙ ap₂ (λ (right wide : ℕ). eqb (length (a .v .now)) (a .setting .t * right) && eqb (length (a .tt .now)) (a .setting .n * wide) && eqb (length (a .dd .now)) (triangular wide))
     (r .right .ensures) (wide-of (a .setting) (s .pre) (a .profile) (r .right .result) (r .right .ensures))
 
 pub message-fits-spec : {M : Type 1} → statement M
@@ -83,6 +88,7 @@ message-fits-spec =
     mul-both
     mul-both-2
     both-requires
+    add-both
     mul-both-3
     both-requires-2
     returns)

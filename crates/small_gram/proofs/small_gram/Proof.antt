@@ -9,17 +9,17 @@ use Rattle.matrices.proofs.Bounds.{sizes-bound}
 use Rattle.small_gram.proofs.small_gram.Statement.{statement}
 use Rattle.small_gram.proofs.small_gram.Tie as tie
 
-cross-products-requires : tie.Need-cross-products-requires
-cross-products-requires c κs =
-    let s = c .before .before in
+lower-products-requires : tie.Need-lower-products-requires
+lower-products-requires c κs =
+    let s = c .before .before .before in
     let a = s .args in
-    let h = s .pre .0 in (
-      (h .long, h .long, s .pre .3),
+    let h = s .pre .0 in
+    let x = signed (a .cols) (a .s .now) in (
+      (omega arith, h .long, s .pre .3),
       λ i j hi hj. omega (
         arith,
-        s .pre .2,
         mul-le-mul-right (32767 * 32767) (s .pre .2),
-        sizes-bound (a .m) 32767 32767 (transposed (signed (a .cols) (a .s .now))) (signed (a .cols) (a .s .now)) i j (λ k l. h .small (k * a .cols + i)) (λ k l. h .small (k * a .cols + j)),
+        sizes-bound (a .m) 32767 32767 (transposed x) x i j (λ k l. h .small (k * a .cols + i)) (λ k l. h .small (k * a .cols + j)),
       ),
     )
 
@@ -42,7 +42,7 @@ pub small-gram-spec : {M : Type 1} → statement M
 small-gram-spec =
     tie.close
     (tie.spec
-    cross-products-requires
+    lower-products-requires
     packed-gram-requires
     same-length
     returns

@@ -3,18 +3,20 @@ use borrow.Author.Needs.{needs}
 use borrow.Author.Tests.{not-true, not-false}
 use mathlib.Core.Path.{_≡_, refl, sym, _∙_, ap}
 use mathlib.Core.Bool.{true}
-use Prim.Native.Nat.{ℕ, _+_, _*_}
+use Prim.Native.Nat.{ℕ}
 use native.Mathlib.Omega.{arith}
 use native.Mathlib.Nat.{mul-le-mul}
 use lib.Dec.{leb}
-use Rattle.matrices.specs.Tables.{entry, signed}
+use lib.IntN.{pos, natAbs}
+use lib.ListN.{getD}
+use Rattle.matrices.specs.Tables.{entry}
 use Rattle.settings.specs.Rules.{firstOf}
 use Rattle.settings.specs.Settings.{Parameters, parametersOf, HOf}
 use Rattle.lova.specs.Stored.{Instance, Message, columnsOf, sentD~}
-use Rattle.lova.specs.Tests.{every, bounded, areTernary}
-use Rattle.lova.specs.Verdict.{verdictRules}
+use Rattle.lova.specs.Tests.{all, every, bounded, areTernary}
+use Rattle.lova.specs.Verdict.{verdictRulesAs}
 use Rattle.lova.proofs.Rebuilding.{rebuilt-accepted, N-is}
-use Rattle.lova.proofs.Widths.{right-few, wide-of, wide-few}
+use Rattle.lova.proofs.Tests.{mirrored-test}
 use Rattle.verdicts.proofs.Lengths.{lengthsFit, C-length, D~-length}
 use Rattle.verdicts.proofs.verdict_refusal.Statement.{statement}
 use Rattle.verdicts.proofs.verdict_refusal.Tie as tie
@@ -48,32 +50,28 @@ bytes c =
     let s = start (c .before) in
     c .are-ternary .ensures ∙ ap (λ (n : ℕ). every n (s .args .setting .t) (λ i j. leb (entry 0 (s .args .setting .t) (s .args .c .now) i j) 2)) (N-is (s .args .setting) (s .pre))
 
--- past the bytes, the columns of D~
-abbrev asked : tie.After-right → tie.Start
-asked c = start (c .before .before .before)
+-- past the bytes, the entries of D~
+abbrev asked : tie.Else2 → tie.Start
+asked c = start (c .before .before)
 
-wide : (c : tie.After-right) →
-    let s = asked c in
-    (s .args .setting .t + c .right .result) * s .args .setting .k ≡ columnsOf (p s) (s .args .profile)
-wide c =
-    let s = asked c in
-    wide-of (s .args .setting) (s .pre) (s .args .profile) (c .right .result) (c .right .ensures)
-
-abbrev counted : tie.After-entries-within → tie.After-right
-counted c = c .before .before .before .before
+abbrev counted : tie.After-entries-within → tie.Else2
+counted c = c .before .before
 
 entries : (c : tie.After-entries-within) →
     let s = asked (counted c) in
     c .entries-within .result ≡ bounded (columnsOf (p s) (s .args .profile)) (columnsOf (p s) (s .args .profile)) (HOf (p s)) (sentD~ (p s) (s .args .profile) .read (s .args .dd .now))
 entries c =
     let s = asked (counted c) in
-    c .entries-within .ensures ∙ ap (λ (n : ℕ). bounded n n (HOf (p s)) (signed n (s .args .dd .now))) (wide (counted c))
+    c .entries-within .ensures
+    ∙ ap (λ (n : ℕ). all n (λ i. leb (natAbs (getD (s .args .dd .now) i (pos 0))) (HOf (p s))))
+    (D~-length (p s) (s .args .profile) (first s) (second s) (message s) (s .args .c .now) (out s) (lengths (counted c .before .before)))
+    ∙ sym (mirrored-test (columnsOf (p s) (s .args .profile)) (HOf (p s)) (s .args .dd .now))
 
 lengths-fit-requires : tie.Need-lengths-fit-requires
 lengths-fit-requires c κs = search needs
 
 returns : tie.Need-returns
-unfolding verdictRules firstOf
+unfolding verdictRulesAs firstOf
 returns c = rw (← c .before .lengths-fit .ensures, not-true (c .before .lengths-fit .result) (c .if1 .taken)) refl
 
 are-ternary-requires : tie.Need-are-ternary-requires
@@ -82,46 +80,28 @@ are-ternary-requires c κs =
     rw (N-is (s .args .setting) (s .pre)) (C-length (p s) (s .args .profile) (first s) (second s) (message s) (s .args .c .now) (out s) (lengths c))
 
 returns-2 : tie.Need-returns-2
-unfolding verdictRules firstOf
+unfolding verdictRulesAs firstOf
 returns-2 c = rw (lengths (c .before .before), ← bytes (c .before), not-true (c .before .are-ternary .result) (c .if2 .taken)) refl
-
-right-requires : tie.Need-right-requires
-right-requires c κs = search needs
-
-add-wide : tie.Need-add-wide
-add-wide c =
-    let s = asked (c .before) in
-    omega (arith, rebuilt-accepted (s .args .setting) (s .pre) .t-high, right-few (s .args .setting) (s .pre) (s .args .profile) (c .before .right .result) (c .before .right .ensures))
-
-mul-wide : tie.Need-mul-wide
-mul-wide c =
-    let r = c .before .before in
-    let s = asked r in
-    omega (arith, wide-few (s .args .setting) (s .pre) (s .args .profile) (r .right .result) (r .right .ensures))
 
 mul-entries-within : tie.Need-mul-entries-within
 mul-entries-within c =
-    let s = asked (c .before .before .before) in
+    let s = asked (c .before) in
     let h = rebuilt-accepted (s .args .setting) (s .pre) .digits-small in
     omega (arith, mul-le-mul h h)
 
 mul-entries-within-2 : tie.Need-mul-entries-within-2
 mul-entries-within-2 c =
-    let s = asked (c .before .before .before) in
+    let s = asked (c .before) in
     let acc = rebuilt-accepted (s .args .setting) (s .pre) in
     omega (arith, mul-le-mul (mul-le-mul (acc .digits-small) (acc .digits-small)) (acc .m-high))
 
 entries-within-requires : tie.Need-entries-within-requires
-entries-within-requires c κs =
-    let r = c .before .before .before in
-    let e = r .before .before .before in
-    let s = asked r in
-    rw (wide r) (D~-length (p s) (s .args .profile) (first s) (second s) (message s) (s .args .c .now) (out s) (lengths e))
+entries-within-requires c κs = search needs
 
 returns-3 : tie.Need-returns-3
-unfolding verdictRules firstOf
+unfolding verdictRulesAs firstOf
 returns-3 c =
-    let b = counted (c .before) .before in
+    let b = counted (c .before) in
     rw (
       lengths (b .before .before),
       ← bytes (b .before),
@@ -131,9 +111,9 @@ returns-3 c =
     ) refl
 
 returns-4 : tie.Need-returns-4
-unfolding verdictRules firstOf
+unfolding verdictRulesAs firstOf
 returns-4 c =
-    let b = counted (c .before) .before in
+    let b = counted (c .before) in
     rw (
       lengths (b .before .before),
       ← bytes (b .before),
@@ -150,9 +130,6 @@ verdict-refusal-spec =
     returns
     are-ternary-requires
     returns-2
-    right-requires
-    add-wide
-    mul-wide
     mul-entries-within
     mul-entries-within-2
     entries-within-requires

@@ -11,7 +11,7 @@ use Rattle.settings.specs.Settings.{Parameters, parametersOf}
 use Rattle.lova.specs.Answers.{verdictOf, Outcome}
 use Rattle.lova.specs.Stored.{Instance, Message}
 use Rattle.lova.specs.Calls.{ProperVerdict, Rebuilt}
-use Rattle.lova.specs.Verdict.{verdictRules, judgedIn, verdictIn}
+use Rattle.lova.specs.Verdict.{verdictRules, judgedIn, verdictAs, verdictIn}
 use Rattle.lova.proofs.Refusals.{verdict-proper}
 use Rattle.lova.proofs.Rebuilding.{rebuilt, rebuilt-accepted}
 use Rattle.lova.proofs.Computed.{diagonalsOnce, firstOnce, secondOnce, long-answer, norm-answer, commitment-answer, yes-answer}
@@ -53,7 +53,7 @@ rebuilt-requires : tie.Need-rebuilt-requires
 rebuilt-requires c κs = search needs
 
 returns : tie.Need-returns
-unfolding verdictIn verdictOf
+unfolding verdictIn verdictAs verdictOf
 returns c =
     let n = c .before in
     let s = start n in
@@ -76,7 +76,7 @@ same-length-2 : tie.Need-same-length-2
 same-length-2 c = search needs
 
 returns-2 : tie.Need-returns-2
-unfolding verdictIn verdictOf
+unfolding verdictIn verdictAs verdictOf
 returns-2 c =
     let w = c .before in
     let e = w .before .before .before .before in
@@ -99,7 +99,7 @@ answers : (c : tie.Else2) →
     let n = new-at c in
     let s = start n in
     answer s (anew n) ≡ verdictIn (parametersOf (s .args .setting)) (s .args .profile) (first s) (second s) (message s) (s .args .c .now) (out s)
-unfolding verdictIn
+unfolding verdictIn verdictAs
 answers c =
     let n = new-at c in
     let s = start n in

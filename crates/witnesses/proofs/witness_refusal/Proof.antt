@@ -1,19 +1,20 @@
 -- `witnesses::witness_refusal` meets its contract: its tests are the rules, in their order.
 use borrow.Author.Needs.{needs}
 use mathlib.Core.Path.{_≡_, sym, _∙_, ap}
-use Prim.Native.Nat.{ℕ, _+_, _*_}
-use native.Mathlib.Omega.{arith}
+use Prim.Native.Nat.{ℕ}
 use lib.Dec.{leb}
-use Rattle.matrices.specs.Tables.{entry, signed}
+use lib.IntN.{pos, natAbs}
+use lib.ListN.{length, getD}
+use Rattle.matrices.specs.Tables.{entry}
 use Rattle.settings.specs.Settings.{parametersOf, hOf}
 use Rattle.lova.specs.Stored.{columnsOf, sentS~}
 use Rattle.lova.specs.Tests.{every, areTernary, bounded}
 use Rattle.lova.specs.Calls.{WitnessLengths}
 use Rattle.lova.specs.Witness.{witnessRules}
 use Rattle.lova.proofs.Refusals.{witnessLens}
-use Rattle.lova.proofs.Rebuilding.{rebuilt-accepted, N-is}
+use Rattle.lova.proofs.Rebuilding.{N-is}
 use Rattle.lova.proofs.Numbers.{true-T, failed-test, passed-test, gives-number, gives-later, gives-none}
-use Rattle.lova.proofs.Widths.{right-few, wide-of, wide-few}
+use Rattle.scans.proofs.Scans.{all-entries}
 use Rattle.witnesses.proofs.witness_refusal.Statement.{statement}
 use Rattle.witnesses.proofs.witness_refusal.Tie as tie
 
@@ -54,38 +55,15 @@ returns-2 c =
     let e = c .before .before in
     gives-later _ 7 _ 9 (sym (e .before .witness-lengths .ensures) ∙ passed-test _ (e .if1 .left)) (gives-number _ 9 _ (sym (bytes-are (c .before)) ∙ failed-test _ (c .if2 .taken)))
 
--- past the bytes, the columns of S~
-abbrev start : tie.After-right → tie.Start
-start c = c .before .before .before .before .before .before
+-- past the bytes, the entries of S~
+abbrev counted : tie.After-entries-within → tie.Else2
+counted c = c .before .before
 
-wide : (c : tie.After-right) →
-    let a = start c .args in
-    (a .setting .t + c .right .result) * a .setting .k ≡ columnsOf (parametersOf (a .setting)) (a .profile)
-wide c =
-    let s = start c in
-    wide-of (s .args .setting) (s .pre) (s .args .profile) (c .right .result) (c .right .ensures)
-
-right-requires : tie.Need-right-requires
-right-requires c κs = search needs
-
-add-wide : tie.Need-add-wide
-add-wide c =
-    let s = start (c .before) in
-    omega (arith, rebuilt-accepted (s .args .setting) (s .pre) .t-high, right-few (s .args .setting) (s .pre) (s .args .profile) (c .before .right .result) (c .before .right .ensures))
-
-mul-wide : tie.Need-mul-wide
-mul-wide c =
-    let r = c .before .before in
-    let s = start r in
-    omega (arith, wide-few (s .args .setting) (s .pre) (s .args .profile) (r .right .result) (r .right .ensures))
-
-abbrev counted : tie.After-entries-within → tie.After-right
-counted c = c .before .before .before .before
+abbrev start : tie.Else2 → tie.Start
+start c = c .before .before .before .before .before
 
 entries-within-requires : tie.Need-entries-within-requires
-entries-within-requires c κs =
-    let r = c .before .before .before in
-    rw (wide r) (lengths (r .before .before .before) .0)
+entries-within-requires c κs = search needs
 
 entries-are : (c : tie.After-entries-within) →
     let a = start (counted c) .args in
@@ -93,12 +71,14 @@ entries-are : (c : tie.After-entries-within) →
     c .entries-within .result ≡ bounded (p .m) (columnsOf p (a .profile)) (hOf p) (sentS~ p (a .profile) .read (a .ss .now))
 entries-are c =
     let a = start (counted c) .args in
-    c .entries-within .ensures ∙ ap (λ (N : ℕ). bounded (a .setting .m) N (hOf (parametersOf (a .setting))) (signed N (a .ss .now))) (wide (counted c))
+    let p = parametersOf (a .setting) in
+    c .entries-within .ensures
+    ∙ all-entries (length (a .ss .now)) (p .m) (columnsOf p (a .profile)) (λ i. leb (natAbs (getD (a .ss .now) i (pos 0))) (hOf p)) (lengths (counted c .before .before) .0)
 
 returns-3 : tie.Need-returns-3
 unfolding witnessRules
 returns-3 c =
-    let v = counted (c .before) .before in
+    let v = counted (c .before) in
     let e = v .before .before in
     gives-later _ 7 _ 11 (sym (e .before .witness-lengths .ensures) ∙ passed-test _ (e .if1 .left))
     (gives-later _ 9 _ 11 (sym (bytes-are (v .before)) ∙ passed-test _ (v .if2 .left)) (gives-number _ 11 _ (sym (entries-are (c .before)) ∙ failed-test _ (c .if3 .taken))))
@@ -106,7 +86,7 @@ returns-3 c =
 returns-4 : tie.Need-returns-4
 unfolding witnessRules
 returns-4 c =
-    let v = counted (c .before) .before in
+    let v = counted (c .before) in
     let e = v .before .before in
     gives-later _ 7 _ 0 (sym (e .before .witness-lengths .ensures) ∙ passed-test _ (e .if1 .left))
     (gives-later _ 9 _ 0 (sym (bytes-are (v .before)) ∙ passed-test _ (v .if2 .left))
@@ -120,9 +100,6 @@ witness-refusal-spec =
     returns
     are-ternary-requires
     returns-2
-    right-requires
-    add-wide
-    mul-wide
     entries-within-requires
     returns-3
     returns-4)

@@ -5,7 +5,7 @@ use lib.Arith.{digits-lt}
 use mir.Syntax.{w64}
 use mir.ValLaws.{toZ-ofZ}
 use Rattle.matrices.specs.Tables.{signed}
-use Rattle.equations.proofs.Parts.{upper-left, upper-right, lower-left, lower-right}
+use Rattle.lova.proofs.Blocks.{upper-left, upper-right, lower-left, lower-right}
 use Rattle.equations.proofs.blocks.joined_d.Statement.{statement}
 use Rattle.equations.proofs.blocks.joined_d.Tie as tie
 

@@ -1,75 +1,49 @@
 -- `equations::recomposition::weighted_block` meets its contract: `sum` holds the bits of the first q rows' terms.
 use borrow.Author.Needs.{needs}
 use mathlib.Core.Path.{_≡_, refl, sym, _∙_, ap}
-use Prim.Native.Nat.{ℕ, _+_, _-_, _*_, _^_, _≤_}
+use Prim.Native.Nat.{ℕ, _+_, _-_, _^_, _<_, _≤_}
 use native.Mathlib.Omega.{arith}
-use native.Mathlib.Nat.{le-mul-of-pos-right}
-use lib.IntN.{ℤ, pos, _+ℤ_, _*ℤ_}
-use lib.ListN.{length, getD}
+use lib.IntN.{ℤ, pos, natAbs, _+ℤ_, _*ℤ_}
+use lib.ListN.{getD}
 use mir.Syntax.{w64}
 use mir.Val.{toZ, ofZ}
 use mir.ValLaws.{toZ-ofZ}
 use Rattle.integers.specs.Sums as Sums
 use Rattle.integers.proofs.Sums.{sum-none-yet, partial-fits}
-use Rattle.matrices.proofs.Tables.{row-within}
 use Rattle.matrices.specs.Elements.{exactly}
 use Rattle.matrices.proofs.Elements.{exactly-sums, sum-on}
 use Rattle.matrices.proofs.Turns.{room, added, sum-room}
 use Rattle.equations.specs.Blocks.{rowTerm}
+use Rattle.equations.proofs.RowSums.{rows-fit}
 use Rattle.equations.proofs.recomposition.weighted_block.Statement.{statement}
 use Rattle.equations.proofs.recomposition.weighted_block.Tie as tie
 
 abbrev Inv-loop : tie.InvT-loop
-Inv-loop x columns i j powers k sum₀ q₀ sum q = (q ≤ k) × (sum ≡ ofZ w64 (Sums.sum q (rowTerm x columns powers k i j)))
+Inv-loop x i j powers k sum₀ q₀ sum q = (q ≤ k) × (sum ≡ ofZ w64 (Sums.sum q (rowTerm x powers k i j)))
 
 abbrev μ-loop : tie.MeasureT-loop
-μ-loop x columns i j powers k sum₀ q₀ sum q = k - q
+μ-loop x i j powers k sum₀ q₀ sum q = k - q
 
--- the function's entry, seen from the loop, its rows' terms, and what `sum` stands for
+-- the function's entry, seen from the loop, its rows' terms, which fit, and what `sum` stands for
 abbrev start : tie.At-loop Inv-loop μ-loop → tie.Start Inv-loop μ-loop
 start c = c .before .before
 
 abbrev terms : tie.Start Inv-loop μ-loop → ℕ → ℤ
-terms s = rowTerm (s .args .x .now) (s .args .columns) (s .args .powers .now) (s .args .k) (s .args .i) (s .args .j)
+terms s = rowTerm (s .args .x .now) (s .args .powers .now) (s .args .k) (s .args .i) (s .args .j)
+
+fits : (s : tie.Start Inv-loop μ-loop) → Sums.sumℕ (s .args .k) (λ q. natAbs (terms s q)) < 2 ^ 63
+fits s = rows-fit (s .pre .2) (s .args .i) (s .args .j)
 
 holds : (c : tie.At-loop Inv-loop μ-loop) → toZ w64 (c .loop .sum) ≡ Sums.sum (c .loop .q) (terms (start c))
-holds c = ap (toZ w64) (c .loop .inv .1) ∙ toZ-ofZ w64 _ (partial-fits (start c .args .k) (terms (start c)) (start c .pre .1 .1) (c .loop .q) (omega arith))
+holds c = ap (toZ w64) (c .loop .inv .1) ∙ toZ-ofZ w64 _ (partial-fits (start c .args .k) (terms (start c)) (fits (start c)) (c .loop .q) (omega arith))
 
 loop-holds : tie.Need-loop-holds Inv-loop μ-loop
 loop-holds c = (omega arith, ap (ofZ w64) (sym (sum-none-yet _)))
 
--- the places that are worked out lie within x
-within : (c : tie.In-loop Inv-loop μ-loop) →
-    let a = c .before .before .before .args in
-    let row = a .i * a .k + c .before .loop .q in
-    (row ≤ length (a .x .now)) × (row * a .columns + a .j * a .k + a .k ≤ length (a .x .now))
-within c =
-    let b = c .before .before .before in
-    let a = b .args in
-    let row : ℕ = a .i * a .k + c .before .loop .q in
-    let whole : row * a .columns + a .columns ≤ (a .i * a .k + a .k) * a .columns = row-within (a .i * a .k + a .k) (a .columns) row (omega arith) in
-    let wide : row ≤ row * a .columns = le-mul-of-pos-right row (omega (arith, b .pre .0 .1)) in
-    (omega (arith, whole, wide, b .pre .0 .0), omega (arith, whole, b .pre .0 .0, b .pre .0 .1))
-
-mul-start : tie.Need-mul-start Inv-loop μ-loop
-mul-start c = omega (arith, within c)
-
-add-start : tie.Need-add-start Inv-loop μ-loop
-add-start c = omega (arith, within c)
-
-mul-start-2 : tie.Need-mul-start-2 Inv-loop μ-loop
-mul-start-2 c = omega (arith, within c)
-
-mul-start-3 : tie.Need-mul-start-3 Inv-loop μ-loop
-mul-start-3 c = omega (arith, within c)
-
-add-start-2 : tie.Need-add-start-2 Inv-loop μ-loop
-add-start-2 c = omega (arith, within c)
-
-weighted-requires : tie.Need-weighted-requires Inv-loop μ-loop
-weighted-requires c κs =
-    let b = c .before .before .before in
-    ((within c .1, b .pre .0 .2, b .pre .0 .3), b .pre .1 .0 (c .before .loop .q) (c .loop-test .taken))
+block-row-requires : tie.Need-block-row-requires Inv-loop μ-loop
+block-row-requires c κs =
+    let s = c .before .before .before in
+    (c .loop-test .taken, s .pre .0, s .pre .1, s .pre .2)
 
 mul-add-product : tie.Need-mul-add-product Inv-loop μ-loop
 mul-add-product c = search needs
@@ -78,7 +52,7 @@ shared-slice-read-add-product : tie.Need-shared-slice-read-add-product Inv-loop 
 shared-slice-read-add-product c = search needs
 
 cast-add-product : tie.Need-cast-add-product Inv-loop μ-loop
-cast-add-product c = record { sfits = c .before .before .before .before .before .pre .0 .3 (c .before .before .before .loop .q) (c .before .before .loop-test .taken) }
+cast-add-product c = record { sfits = c .before .before .before .before .before .pre .2 .power-fits (c .before .before .before .loop .q) (c .before .before .loop-test .taken) }
 
 add-product-requires : tie.Need-add-product-requires Inv-loop μ-loop
 add-product-requires c κs =
@@ -87,8 +61,8 @@ add-product-requires c κs =
     let a = s .args in
     let q = l .loop .q in
     let h = c .before .before .loop-test .taken in
-    room (Sums.sum q (terms s)) (c .before .weighted .result) (pos (getD (a .powers .now) q 0)) (holds l)
-    (record { sfits = c .before .weighted .ok }) (record { sfits = s .pre .0 .3 q h }) (rw (c .before .weighted .ensures) (sum-room (a .k) (2 ^ 63) (terms s) (s .pre .1 .1) q h))
+    room (Sums.sum q (terms s)) (c .before .block-row .result) (pos (getD (a .powers .now) q 0)) (holds l)
+    (record { sfits = c .before .block-row .ok }) (record { sfits = s .pre .2 .power-fits q h }) (rw (c .before .block-row .ensures) (sum-room (a .k) (2 ^ 63) (terms s) (fits s) q h))
 
 add-q : tie.Need-add-q Inv-loop μ-loop
 add-q c = search needs
@@ -102,11 +76,11 @@ loop-again c =
     let s = start l in
     let a = s .args in
     let q = l .loop .q in
-    let w = c .before .before .weighted in (
+    let w = c .before .before .block-row in (
       omega arith,
       ap (ofZ w64) (sum-on exactly exactly-sums q (terms s) (holds l)
           (added (toZ w64 (l .loop .sum)) (w .result) (pos (getD (a .powers .now) q 0)) refl
-          (record { sfits = w .ok }) (record { sfits = s .pre .0 .3 q (c .before .before .before .loop-test .taken) }) (c .add-product .ensures)
+          (record { sfits = w .ok }) (record { sfits = s .pre .2 .power-fits q (c .before .before .before .loop-test .taken) }) (c .add-product .ensures)
           ∙ ap (λ (z : ℤ). toZ w64 (l .loop .sum) +ℤ z *ℤ pos (getD (a .powers .now) q 0)) (w .ensures))),
     )
 
@@ -122,12 +96,7 @@ weighted-block-spec =
     Inv-loop
     μ-loop
     loop-holds
-    mul-start
-    add-start
-    mul-start-2
-    mul-start-3
-    add-start-2
-    weighted-requires
+    block-row-requires
     mul-add-product
     shared-slice-read-add-product
     cast-add-product

@@ -21,8 +21,8 @@ returns : tie.Need-returns
 returns c =
     let s = c .before .before .before .before in
     let v = s .args .v in
-    added-same exactly _ (λ k. v *ℤ getD (s .args .row .now) k (pos 0)) _ _ _ _
-    (λ k h. by-one v (getD (s .args .row .now) k (pos 0)) (by-bits v 1 (s .fits .v) (c .before .before .before .if1 .taken))) (c .before .plus-row .ensures)
+    added-same exactly _ (λ k. v *ℤ (pos 2 *ℤ getD (s .args .row .now) k (pos 0))) _ _ _ _
+    (λ k h. by-one v (pos 2 *ℤ getD (s .args .row .now) k (pos 0)) (by-bits v 1 (s .fits .v) (c .before .before .before .if1 .taken))) (c .before .plus-row .ensures)
 
 minus-row-requires : tie.Need-minus-row-requires
 minus-row-requires c κs = search needs
@@ -34,8 +34,8 @@ returns-2 : tie.Need-returns-2
 returns-2 c =
     let s = c .before .before .before .before .before in
     let v = s .args .v in
-    added-same exactly _ (λ k. v *ℤ getD (s .args .row .now) k (pos 0)) _ _ _ _
-    (λ k h. by-minus-one v (getD (s .args .row .now) k (pos 0)) (by-bits v 65535 (s .fits .v) (c .before .before .before .if2 .taken))) (c .before .minus-row .ensures)
+    added-same exactly _ (λ k. v *ℤ (pos 2 *ℤ getD (s .args .row .now) k (pos 0))) _ _ _ _
+    (λ k h. by-minus-one v (pos 2 *ℤ getD (s .args .row .now) k (pos 0)) (by-bits v 65535 (s .fits .v) (c .before .before .before .if2 .taken))) (c .before .minus-row .ensures)
 
 cast-times-row : tie.Need-cast-times-row
 cast-times-row c = let s = c .before .before .before in widened (s .args .v) (s .fits .v) .fits
@@ -53,15 +53,15 @@ returns-3 : tie.Need-returns-3
 returns-3 c =
     let s = c .before .before .before .before .before .before in
     let v = s .args .v in
-    added-same exactly _ (λ k. v *ℤ getD (s .args .row .now) k (pos 0)) _ _ _ _
-    (λ k h. ap (λ (z : ℤ). z *ℤ getD (s .args .row .now) k (pos 0)) (widened v (s .fits .v) .read)) (c .before .times-row .ensures)
+    added-same exactly _ (λ k. v *ℤ (pos 2 *ℤ getD (s .args .row .now) k (pos 0))) _ _ _ _
+    (λ k h. ap (λ (z : ℤ). z *ℤ (pos 2 *ℤ getD (s .args .row .now) k (pos 0))) (widened v (s .fits .v) .read)) (c .before .times-row .ensures)
 
 returns-4 : tie.Need-returns-4
 returns-4 c =
     let s = c .before .before .before in
     let v = s .args .v in
-    added-same exactly _ (λ k. v *ℤ getD (s .args .row .now) k (pos 0)) _ _ _ _
-    (λ k h. by-zero v (getD (s .args .row .now) k (pos 0)) (by-bits v 0 (s .fits .v) (c .if3 .left))) (added-nothing exactly (λ k. pos 0) 0 _ (s .args .e .now) (omega arith) (λ k h. +ℤ-idr _))
+    added-same exactly _ (λ k. v *ℤ (pos 2 *ℤ getD (s .args .row .now) k (pos 0))) _ _ _ _
+    (λ k h. by-zero v (pos 2 *ℤ getD (s .args .row .now) k (pos 0)) (by-bits v 0 (s .fits .v) (c .if3 .left))) (added-nothing exactly (λ k. pos 0) 0 _ (s .args .e .now) (omega arith) (λ k h. +ℤ-idr _))
 
 pub add-row-spec : {M : Type 1} → statement M
 add-row-spec =

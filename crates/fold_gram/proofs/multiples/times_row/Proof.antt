@@ -12,24 +12,24 @@ use mir.ValLaws.{toZ-ofZ}
 use Rattle.integers.proofs.Sizes.{natAbs-*}
 use Rattle.integers.proofs.Words.{read-back}
 use Rattle.matrices.specs.Elements.{exactly, Added}
-use Rattle.matrices.proofs.Elements.{added-none, added-up}
-use Rattle.matrices.proofs.Elements.{added-same}
+use Rattle.matrices.proofs.Elements.{added-none, added-up, added-same}
+use Rattle.fold_gram.proofs.Factors.{twice, twice-size}
 use Rattle.fold_gram.proofs.multiples.times_row.Statement.{statement}
 use Rattle.fold_gram.proofs.multiples.times_row.Tie as tie
 
 abbrev Inv-loop : tie.InvT-loop
-Inv-loop row v e₀ k₀ e k = (k ≤ length e₀) × Added exactly (λ k. toZ w64 v *ℤ getD row k (pos 0)) 0 k e₀ e
+Inv-loop row v e₀ k₀ e k = (k ≤ length e₀) × Added exactly (λ k. toZ w64 v *ℤ (pos 2 *ℤ getD row k (pos 0))) 0 k e₀ e
 
 abbrev μ-loop : tie.MeasureT-loop
 μ-loop row v e₀ k₀ e k = length e₀ - k
 
 loop-holds : tie.Need-loop-holds Inv-loop μ-loop
-loop-holds c = let a = c .args in (omega arith, added-none exactly (λ k. toZ w64 (ofZ w64 (a .v)) *ℤ getD (a .row .now) k (pos 0)) 0 (a .e .now))
+loop-holds c = let a = c .args in (omega arith, added-none exactly (λ k. toZ w64 (ofZ w64 (a .v)) *ℤ (pos 2 *ℤ getD (a .row .now) k (pos 0))) 0 (a .e .now))
 
 -- the sizes of the two numbers that a turn reads
 sizes : (c : tie.In-loop Inv-loop μ-loop) →
     let l = c .before in
-    (natAbs (getD (l .loop .e) (l .loop .k) (pos 0)) ≤ 2 ^ 44) × (natAbs (getD (l .before .args .row .now) (l .loop .k) (pos 0)) ≤ 2 ^ 31)
+    (natAbs (getD (l .loop .e) (l .loop .k) (pos 0)) ≤ 2 ^ 45) × (natAbs (getD (l .before .args .row .now) (l .loop .k) (pos 0)) ≤ 2 ^ 31)
 sizes c =
     let l = c .before in
     let k = l .loop .k in
@@ -47,6 +47,11 @@ mul-add-product-2 c = omega (arith, c .before .before .loop .inv .1 .long)
 shared-slice-copy-out-add-product : tie.Need-shared-slice-copy-out-add-product Inv-loop μ-loop
 shared-slice-copy-out-add-product c = omega (arith, c .before .before .loop .inv .1 .long)
 
+mul-add-product-3 : tie.Need-mul-add-product-3 Inv-loop μ-loop
+mul-add-product-3 c =
+    let l = c .before .before .before in
+    twice (getD (l .before .args .row .now) (l .loop .k) (pos 0)) (sizes (c .before .before) .1) .fits
+
 add-product-requires : tie.Need-add-product-requires Inv-loop μ-loop
 add-product-requires c κs =
     let l = c .before .before .before in
@@ -54,8 +59,8 @@ add-product-requires c κs =
     let h = sizes (c .before .before) in
     let y = getD (l .loop .e) (l .loop .k) (pos 0) in
     let x = getD (a .row .now) (l .loop .k) (pos 0) in
-    rw (read-back w64 y (omega arith), read-back w64 x (omega arith), toZ-ofZ w64 (a .v) (l .before .fits .v), natAbs-* (a .v) x)
-    (omega (arith, h, mul-le-mul (l .before .pre .3) (h .1)))
+    rw (read-back w64 y (omega arith), twice x (h .1) .read, toZ-ofZ w64 (a .v) (l .before .fits .v), natAbs-* (a .v) (pos 2 *ℤ x))
+    (omega (arith, h, mul-le-mul (l .before .pre .3) (twice-size x (h .1))))
 
 mul-y : tie.Need-mul-y Inv-loop μ-loop
 mul-y c = omega (arith, c .before .before .before .before .loop .inv .1 .long)
@@ -77,9 +82,9 @@ loop-again c =
     let y = getD (l .loop .e) (l .loop .k) (pos 0) in
     let x = getD (a .row .now) (l .loop .k) (pos 0) in (
       omega arith,
-      added-up exactly (λ k. toZ w64 (ofZ w64 (a .v)) *ℤ getD (a .row .now) k (pos 0)) 0 (l .loop .k) (a .e .now) (l .loop .e) _ (l .loop .inv .1) (slice-set-from-y c)
+      added-up exactly (λ k. toZ w64 (ofZ w64 (a .v)) *ℤ (pos 2 *ℤ getD (a .row .now) k (pos 0))) 0 (l .loop .k) (a .e .now) (l .loop .e) _ (l .loop .inv .1) (slice-set-from-y c)
           (toZ-ofZ w64 (c .add-product .result) (record { sfits = c .add-product .ok }) ∙ c .add-product .ensures
-          ∙ ap₂ (λ (u z : ℤ). u +ℤ toZ w64 (ofZ w64 (a .v)) *ℤ z) (read-back w64 y (omega arith)) (read-back w64 x (omega arith))),
+          ∙ ap₂ (λ (u z : ℤ). u +ℤ toZ w64 (ofZ w64 (a .v)) *ℤ z) (read-back w64 y (omega arith)) (twice x (h .1) .read)),
     )
 
 same-length : tie.Need-same-length Inv-loop μ-loop
@@ -89,8 +94,8 @@ returns : tie.Need-returns Inv-loop μ-loop
 returns c =
     let e : c .before .loop .k ≡ length (c .before .before .args .e .now) = omega (arith, c .before .loop .inv .1 .long) in
     let s = c .before .before in
-    added-same exactly _ (λ k. s .args .v *ℤ getD (s .args .row .now) k (pos 0)) _ _ _ _
-    (λ k h. ap (λ (z : ℤ). z *ℤ getD (s .args .row .now) k (pos 0)) (toZ-ofZ w64 (s .args .v) (s .fits .v)))
+    added-same exactly _ (λ k. s .args .v *ℤ (pos 2 *ℤ getD (s .args .row .now) k (pos 0))) _ _ _ _
+    (λ k h. ap (λ (z : ℤ). z *ℤ (pos 2 *ℤ getD (s .args .row .now) k (pos 0))) (toZ-ofZ w64 (s .args .v) (s .fits .v)))
     (rw e at (c .before .loop .inv .1))
 
 pub times-row-spec : {M : Type 1} → statement M
@@ -104,6 +109,7 @@ times-row-spec =
     slice-copy-out-add-product
     mul-add-product-2
     shared-slice-copy-out-add-product
+    mul-add-product-3
     add-product-requires
     mul-y
     slice-set-from-y

@@ -1,10 +1,12 @@
 -- `fold_nodes::fold_calls::calls` meets its contract: each call is given what the one before it left, and message finds zeros.
 use mathlib.Core.Path.{_≡_, refl, sym, _∙_, ap}
 use mathlib.Core.List.{List}
-use Prim.Native.Nat.{ℕ, _*_, _≤_}
+use Prim.Native.Nat.{ℕ, _+_, _*_, _≤_}
 use native.Mathlib.Omega.{arith}
+use native.Mathlib.Nat.{mul-le-mul}
 use lib.IntN.{ℤ, pos}
 use lib.ListN.{take, replicate}
+use Rattle.matrices.specs.Triangles.{triangular}
 use Rattle.settings.specs.Settings.{Parameters, NOf, parametersOf}
 use Rattle.lova.specs.Answers.{answerOf, verdictOf, ends}
 use Rattle.lova.specs.Stored.{Message, Prepared, matrixV}
@@ -45,8 +47,15 @@ module _ (s : tie.Start) where
   T~-high : p .n * N ≤ 256
   T~-high = rw is-N (big .T~-high)
 
-  D~-high : N * N ≤ 1024
+  D~-high : triangular N ≤ 528
   D~-high = rw is-N (big .D~-high)
+
+  few : N ≤ 32
+  few = rw is-N (big .N-high)
+
+  -- twice the numbers of D~
+  D~-whole : N * (N + 1) ≤ 1056
+  D~-whole = let more : N + 1 ≤ 33 = omega (arith, few) in mul-le-mul few more
 
   S~-high : p .m * N ≤ 512
   S~-high = rw is-N (big .S~-high)
@@ -54,17 +63,17 @@ module _ (s : tie.Start) where
   -- what message finds
   found : Prepared
   found = record {
-    message = record { «V» = take (matrixV p .size) (replicate 4 (pos 0)); T~ = take (p .n * N) (replicate 256 0); D~ = take (N * N) (replicate 1024 (pos 0)) };
+    message = record { «V» = take (matrixV p .size) (replicate 4 (pos 0)); T~ = take (p .n * N) (replicate 256 0); D~ = take (triangular N) (replicate 528 (pos 0)) };
     S~ = take (p .m * N) (replicate 512 (pos 0));
   }
 
   found-blank : found ≡ blankPrepared p
   unfolding found
-  found-blank = rw (blank _ 4 (pos 0) (big .V-high), blank {A = ℕ} _ 256 0 T~-high, blank _ 1024 (pos 0) D~-high, blank _ 512 (pos 0) S~-high, is-N) refl
+  found-blank = rw (blank _ 4 (pos 0) (big .V-high), blank {A = ℕ} _ 256 0 T~-high, blank _ 528 (pos 0) D~-high, blank _ 512 (pos 0) S~-high, is-N) refl
 
 -- message's call: the entry before it, what it left, and its equation
 abbrev start : tie.After-message → tie.Start
-start c = c .before .before .before .before .before .before .before .before .before .before .before .before .before .before
+start c = c .before .before .before .before .before .before .before .before .before .before .before .before .before .before .before
 
 abbrev left : tie.After-message → Prepared
 left c = record {
@@ -78,8 +87,8 @@ V-back c = back _ 4 (pos 0) _ (big (start c) .V-high) (c .message .kept .1 .1 .1
 T~-back : (c : tie.After-message) → Back (p (start c) .n * N (start c)) 256 0 (left c .message .T~)
 T~-back c = back _ 256 0 _ (T~-high (start c)) (c .message .kept .1 .1 .1 .1 .1 .1 .0)
 
-D~-back : (c : tie.After-message) → Back (N (start c) * N (start c)) 1024 (pos 0) (left c .message .D~)
-D~-back c = back _ 1024 (pos 0) _ (D~-high (start c)) (c .message .kept .1 .1 .1 .1 .1 .1 .1 .0)
+D~-back : (c : tie.After-message) → Back (triangular (N (start c))) 528 (pos 0) (left c .message .D~)
+D~-back c = back _ 528 (pos 0) _ (D~-high (start c)) (c .message .kept .1 .1 .1 .1 .1 .1 .1 .0)
 
 S~-back : (c : tie.After-message) → Back (p (start c) .m * N (start c)) 512 (pos 0) (left c .S~)
 S~-back c = back _ 512 (pos 0) _ (S~-high (start c)) (c .message .kept .1 .1 .1 .1 .1 .1 .1 .1 .0)
@@ -98,35 +107,38 @@ mul-size-v c = omega (arith, big (c .before .before .before .before .before .bef
 mul-size-tt : tie.Need-mul-size-tt
 mul-size-tt c = omega (arith, T~-high (c .before .before .before .before .before .before .before))
 
+add-size-dd : tie.Need-add-size-dd
+add-size-dd c = omega (arith, few (c .before .before .before .before .before .before .before .before))
+
 mul-size-dd : tie.Need-mul-size-dd
-mul-size-dd c = omega (arith, D~-high (c .before .before .before .before .before .before .before .before))
+mul-size-dd c = omega (arith, D~-whole (c .before .before .before .before .before .before .before .before .before))
 
 mul-size-ss : tie.Need-mul-size-ss
-mul-size-ss c = omega (arith, S~-high (c .before .before .before .before .before .before .before .before .before))
+mul-size-ss c = omega (arith, S~-high (c .before .before .before .before .before .before .before .before .before .before))
 
 array-borrow-prefix-v : tie.Need-array-borrow-prefix-v
-array-borrow-prefix-v c = big (c .before .before .before .before .before .before .before .before .before) .V-high
+array-borrow-prefix-v c = big (c .before .before .before .before .before .before .before .before .before .before) .V-high
 
 slice-aggregate-message : tie.Need-slice-aggregate-message
-slice-aggregate-message c = sym (blank-long _ 4 (pos 0) (big (c .before .before .before .before .before .before .before .before .before .before) .V-high))
+slice-aggregate-message c = sym (blank-long _ 4 (pos 0) (big (c .before .before .before .before .before .before .before .before .before .before .before) .V-high))
 
 array-borrow-prefix-tt : tie.Need-array-borrow-prefix-tt
-array-borrow-prefix-tt c = T~-high (c .before .before .before .before .before .before .before .before .before .before)
+array-borrow-prefix-tt c = T~-high (c .before .before .before .before .before .before .before .before .before .before .before)
 
 slice-aggregate-message-2 : tie.Need-slice-aggregate-message-2
-slice-aggregate-message-2 c = sym (blank-long _ 256 0 (T~-high (c .before .before .before .before .before .before .before .before .before .before .before)))
+slice-aggregate-message-2 c = sym (blank-long _ 256 0 (T~-high (c .before .before .before .before .before .before .before .before .before .before .before .before)))
 
 array-borrow-prefix-dd : tie.Need-array-borrow-prefix-dd
-array-borrow-prefix-dd c = D~-high (c .before .before .before .before .before .before .before .before .before .before .before)
+array-borrow-prefix-dd c = D~-high (c .before .before .before .before .before .before .before .before .before .before .before .before)
 
 slice-aggregate-message-3 : tie.Need-slice-aggregate-message-3
-slice-aggregate-message-3 c = sym (blank-long _ 1024 (pos 0) (D~-high (c .before .before .before .before .before .before .before .before .before .before .before .before)))
+slice-aggregate-message-3 c = sym (blank-long _ 528 (pos 0) (D~-high (c .before .before .before .before .before .before .before .before .before .before .before .before .before)))
 
 array-borrow-prefix-ss : tie.Need-array-borrow-prefix-ss
-array-borrow-prefix-ss c = S~-high (c .before .before .before .before .before .before .before .before .before .before .before .before)
+array-borrow-prefix-ss c = S~-high (c .before .before .before .before .before .before .before .before .before .before .before .before .before)
 
 slice-aggregate-message-4 : tie.Need-slice-aggregate-message-4
-slice-aggregate-message-4 c = sym (blank-long _ 512 (pos 0) (S~-high (c .before .before .before .before .before .before .before .before .before .before .before .before .before)))
+slice-aggregate-message-4 c = sym (blank-long _ 512 (pos 0) (S~-high (c .before .before .before .before .before .before .before .before .before .before .before .before .before .before)))
 
 message-requires : tie.Need-message-requires
 message-requires c κs = tt
@@ -192,6 +204,7 @@ calls-spec =
     (tie.spec
     mul-size-v
     mul-size-tt
+    add-size-dd
     mul-size-dd
     mul-size-ss
     array-borrow-prefix-v
