@@ -18,10 +18,13 @@ pub struct Case {
     pub n: usize,
     pub m: usize,
     pub t: usize,
+    pub k: usize,
     pub columns: usize,
     pub a: Vec<u64>,
     pub s1: Vec<i64>,
     pub s2: Vec<i64>,
+    /// The rows of [S1 S2], of which S~ has the digits.
+    pub both: Vec<i64>,
     pub t1: Vec<u64>,
     pub d1: Vec<i64>,
     pub t2: Vec<u64>,
@@ -74,9 +77,10 @@ pub fn case(p: [u64; 5]) -> Case {
     let (mut v, mut tt) = (vec![0; t * t], vec![0; n * columns]);
     let (mut dd, mut ss) = (vec![0; plain::triangle(columns)], vec![0; m * columns]);
     assert_eq!(plain::message(p, &a, &s1, &s2, &mut v, &mut tt, &mut dd, &mut ss), 0);
+    let both = s1.chunks_exact(t).zip(s2.chunks_exact(t)).flat_map(|(left, right)| [left, right].concat()).collect();
     // The first numbers of the second witness are as good a vector as any.
     let fresh = fresh(&z, p, &a, &s1, &s2[..m]);
-    Case { p, n, m, t, columns, a, s1, s2, t1, d1, t2, d2, v, tt, dd, ss, c, fresh }
+    Case { p, n, m, t, k: z.k, columns, a, s1, s2, both, t1, d1, t2, d2, v, tt, dd, ss, c, fresh }
 }
 
 /// The fresh part of a case.

@@ -215,6 +215,14 @@ fn write_digits(x: i64, b: u64, out: &mut [i64]) {
     }
 }
 
+/// The k digits of each entry of s, entry after entry.
+#[inline(never)]
+pub fn digit_rows(s: &[i64], b: u64, k: usize, out: &mut [i64]) {
+    for (x, digits) in s.iter().zip(out.chunks_exact_mut(k)) {
+        write_digits(*x, b, digits);
+    }
+}
+
 /// The digit witness S~ of [s1 s2], where s2 has so many columns.
 #[inline(never)]
 pub fn digit_witness(z: &Shape, s1: &[i64], s2: &[i64], columns: usize, out: &mut [i64]) {

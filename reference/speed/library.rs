@@ -1,4 +1,4 @@
-//! The static library's functions, on slices. `products_c` has the four costly products alone.
+//! The static library's functions, on slices. `products_c` has the digits and the four costly products alone.
 
 // The house list and the setting check are not timed.
 #[allow(dead_code)]
@@ -8,6 +8,7 @@ mod raw;
 use raw::*;
 
 extern "C" {
+    fn digits_ss(s: *const i64, s_len: usize, b: u64, k: usize, out: *mut i64, out_len: usize);
     fn product_dd(s: *const i64, s_len: usize, m: usize, columns: usize, out: *mut i64, out_len: usize);
     fn product_tt(
         a: *const u64, a_len: usize, s: *const i64, s_len: usize, n: usize, m: usize, columns: usize,
@@ -18,6 +19,11 @@ extern "C" {
         s: *const i64, s_len: usize, c: *const u8, c_len: usize, m: usize, n: usize, t: usize,
         out: *mut i64, out_len: usize,
     );
+}
+
+/// The k digits of each entry of s: a part of S~.
+pub fn ss(s: &[i64], b: u64, k: usize, out: &mut [i64]) {
+    unsafe { digits_ss(s.as_ptr(), s.len(), b, k, out.as_mut_ptr(), out.len()) }
 }
 
 /// D~ of the digit witness s, as its lower triangle.

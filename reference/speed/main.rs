@@ -1,8 +1,8 @@
 //! The static library's speed beside idiomatic Rust's: ratios of medians from one run.
 //!
-//! Every operation, in both profiles, and the four costly products alone, on the same inputs, with outputs asserted equal.
-//! The variants take turns, so that what else the machine does falls on all of them; a fresh call also takes turns with the
-//! library's general one.
+//! Every operation, in both profiles, and the digits and the four costly products alone, on the same inputs, with outputs
+//! asserted equal. The variants take turns, so that what else the machine does falls on all of them; a fresh call also takes
+//! turns with the library's general one.
 
 mod cases;
 mod library;

@@ -1,4 +1,4 @@
-//! What is timed: the four costly products alone, the six operations, and those of a fold with a fresh witness.
+//! What is timed: the digits and the four costly products alone, the six operations, and those of a fold with a fresh witness.
 
 use crate::cases::Case;
 use crate::library;
@@ -71,8 +71,13 @@ macro_rules! variants {
     }};
 }
 
-/// The four costly products alone.
-fn products(z: &Case) -> [Work; 4] {
+/// The digits and the four costly products alone.
+fn parts(z: &Case) -> [Work; 5] {
+    let ss: [Call; 3] = [
+        |z, o| library::ss(&z.both, z.p[3], z.k, &mut o.whole[0]),
+        |z, o| plain::digit_rows(&z.both, z.p[3], z.k, &mut o.whole[0]),
+        |z, o| native::digit_rows(&z.both, z.p[3], z.k, &mut o.whole[0]),
+    ];
     let dd: [Call; 3] = [
         |z, o| library::dd(&z.ss, z.m, z.columns, &mut o.whole[0]),
         |z, o| plain::lower_products(&z.ss, z.columns, &mut o.whole[0]),
@@ -94,6 +99,7 @@ fn products(z: &Case) -> [Work; 4] {
         |z, o| native::fold_small(&z.ss, &z.c, z.columns, z.t, &mut o.whole[0]),
     ];
     [
+        Work { name: "S~", out: Out::of(0, [z.m * z.columns, 0, 0]), calls: ss },
         Work { name: "D~", out: Out::of(0, [plain::triangle(z.columns), 0, 0]), calls: dd },
         Work { name: "T~", out: Out::of(z.n * z.columns, [0, 0, 0]), calls: tt },
         Work { name: "D'", out: Out::of(0, [z.t * z.t, 0, 0]), calls: d },
@@ -164,7 +170,7 @@ fn fresh_operations(z: &Case) -> [Work; 5] {
 
 /// The rows of one setting in the general form.
 pub fn rows(z: &Case) -> Vec<Row> {
-    products(z).into_iter().chain(operations(z)).map(|work| row(z, work, None)).collect()
+    parts(z).into_iter().chain(operations(z)).map(|work| row(z, work, None)).collect()
 }
 
 /// The rows of one setting with a fresh witness; where t is 1 both forms are the same.

@@ -21,6 +21,18 @@ fn points() {
 }
 
 #[test]
+fn carry_by_arithmetic() {
+    // Document 02, request 4. What is left of d is 0 or the 1 that the rule adds, which is its own digit.
+    for b in (2..=2000).chain([65534, 65535, 1 << 20]) {
+        let h = b / 2;
+        for d in 0..b {
+            let carry = (d + b - 1 - h) / b;
+            assert_eq!(digits(d as i64, b, 2), [d as i64 - (b * carry) as i64, carry as i64], "{d} to the base {b}");
+        }
+    }
+}
+
+#[test]
 fn even_base_takes_size_first() {
     assert_eq!(digits(2, 4, 2), [2, 0]);
     assert_eq!(digits(-2, 4, 2), [-2, 0]);

@@ -1,5 +1,5 @@
 -- Rows of a digit witness, written in two parts, and the witness written row by row.
-use mathlib.Core.Path.{_≡_, refl, sym, _∙_, ap}
+use mathlib.Core.Path.{_≡_, refl, sym, _∙_, ap, subst}
 use mathlib.Core.Logic.{⊎-elim}
 use mathlib.Core.List.{List, _++_}
 use Prim.Native.Nat.{ℕ, _+_, _*_, _-_, _/_, _%_, _<_, _≤_}
@@ -14,7 +14,10 @@ use Rattle.matrices.specs.Matrices.{Matrix}
 use Rattle.matrices.specs.Tables.{signed}
 use Rattle.matrices.proofs.Tables.{TableTo, row-long, row-at, table-part-of}
 use Rattle.settings.specs.Settings.{Parameters, kOf, NOf}
+use Rattle.digits.specs.declared.Base.{Base}
+use Rattle.digits.specs.Bases.{baseOf, IsBase, AllInReach}
 use Rattle.digits.specs.Digits.{digitOf, rowDigits}
+use Rattle.digits.proofs.Bases.{is-base, part-in-reach}
 use Rattle.digits.proofs.Rows.{digitAt}
 use Rattle.lova.specs.Fold.{beside, digitWitness}
 use Rattle.lova.proofs.Blocks.{beside-left, beside-right}
@@ -29,6 +32,20 @@ wide-high p right h = rw (← both-wide p) (mul-le-mul-right (kOf p) (omega arit
 -- row i of a matrix, lent as a part of it
 abbrev pub rowOf : ℕ → List ℤ → ℕ → List ℤ
 rowOf cols S i = take (i * cols + cols - i * cols) (drop (i * cols) S)
+
+-- the rows are in reach of the base of b that `Base::new` gave, and the digits to it are those to b
+module _ (b : ℕ) (low : 2 ≤ b) (high : b ≤ 65535) (base : Base) (made : base ≡ baseOf b) where
+  pub rows-in-reach : (t right i : ℕ) (S₁ S₂ : List ℤ) → AllInReach b S₁ → AllInReach b S₂
+      → IsBase base × AllInReach (base .b) (rowOf t S₁ i) × AllInReach (base .b) (rowOf right S₂ i)
+  rows-in-reach t right i S₁ S₂ reach₁ reach₂ =
+      subst (λ (x : Base). IsBase x × AllInReach (x .b) (rowOf t S₁ i) × AllInReach (x .b) (rowOf right S₂ i)) (sym made) (
+        is-base b low (omega arith),
+        part-in-reach b (i * t) (i * t + t - i * t) S₁ reach₁,
+        part-in-reach b (i * right) (i * right + right - i * right) S₂ reach₂,
+      )
+
+  pub to-the-base : (t right i k : ℕ) (S₁ S₂ : List ℤ) → rowDigits (base .b) k (rowOf t S₁ i ++ rowOf right S₂ i) ≡ rowDigits b k (rowOf t S₁ i ++ rowOf right S₂ i)
+  to-the-base t right i k S₁ S₂ = ap (λ (x : Base). rowDigits (x .b) k (rowOf t S₁ i ++ rowOf right S₂ i)) made
 
 -- the digit witness of [S1 S2], where S2 has so many columns
 abbrev pub digitsOfBoth : Parameters → ℕ → List ℤ → List ℤ → Matrix

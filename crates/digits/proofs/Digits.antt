@@ -1,22 +1,20 @@
 -- The digits of an entry: they are small, they make the entry, and they go by its size and its sign.
 use mathlib.Core.Path.{_≡_, refl, sym, _∙_, ap}
 use mathlib.Core.Logic.{_≢_}
-use mathlib.Core.Bool.{true, false}
 use Prim.Native.Nat.{ℕ, zero, suc, _+_, _*_, _-_, _/_, _^_, _<_, _≤_}
 use native.Mathlib.Omega.{arith, by-contra}
-use native.Mathlib.Nat.{add-suc, suc-add, zero-add, add-zero, mul-zero, two-mul, pow-suc, pow-zero, mul-le-mul}
+use native.Mathlib.Nat.{add-suc, suc-add, zero-add, add-zero, mul-zero, two-mul, pow-suc, pow-zero, le-refl, le-trans, mul-le-mul}
 use native.Mathlib.Numerals.{add-one}
 use lib.Pow.{pow-add}
 use lib.IntN.{ℤ, pos, negsuc, negℤ, natAbs, _+ℤ_, _*ℤ_, +ℤ-idr, negℤ-negℤ}
-use lib.Signed.{ltZ}
 use Rattle.integers.specs.Sums.{sum}
 use Rattle.integers.proofs.Ring.{diff-eq, ring, as-diff}
 use Rattle.integers.proofs.Sizes.{natAbs-negate}
 use Rattle.integers.proofs.Sums.{sum-cong, sum-negate}
-use Rattle.integers.proofs.Words.{negative, nonnegative}
 use Rattle.digits.specs.declared.Step.{Step}
-use Rattle.digits.specs.Digits.{stepOf, restOf, digitOf}
-use Rattle.digits.proofs.Steps.{step-size, step-value, step-rest, step-last, step-zero, no-minus-half}
+use Rattle.digits.specs.Digits.{stepOf, restOf, signOf, digitOf}
+use Rattle.digits.proofs.Signs.{one-times, minus-one-times}
+use Rattle.digits.proofs.Steps.{step-size, step-value, step-rest, step-last, step-less, step-zero, no-minus-half}
 
 -- what is left after no step, and after one step more, at the code's p + 1
 pub rest-none : (b w : ℕ) → restOf b 0 w ≡ w
@@ -27,14 +25,17 @@ pub rest-more : (b p w : ℕ) → restOf b (p + 1) w ≡ stepOf b (restOf b p w)
 unfolding restOf
 rest-more b p w = rw (add-one p) refl
 
--- the digits of an entry below zero are the negated digits of its size, those of another are its size's
-pub digit-below : (b : ℕ) (z : ℤ) (p : ℕ) → ltZ z (pos 0) ≡ true → digitOf b z p ≡ negℤ (stepOf b (restOf b p (natAbs z)) .digit)
-unfolding digitOf
-digit-below b z p h = let n = negative z h in rw (n .1) refl
+-- no steps leave more than there was
+pub rest-less : (b p w : ℕ) → 2 ≤ b → restOf b p w ≤ w
+unfolding restOf
+rest-less b zero w h = le-refl w
+rest-less b (suc p) w h = le-trans (step-less b (restOf b p w) h) (rest-less b p w h)
 
-pub digit-above : (b : ℕ) (z : ℤ) (p : ℕ) → ltZ z (pos 0) ≡ false → digitOf b z p ≡ stepOf b (restOf b p (natAbs z)) .digit
-unfolding digitOf
-digit-above b z p h = ap (λ (y : ℤ). digitOf b y p) (nonnegative z h)
+-- the digits of an entry are its sign times those of its size
+pub digit-by-sign : (b : ℕ) (z : ℤ) (p : ℕ) → digitOf b z p ≡ signOf z *ℤ stepOf b (restOf b p (natAbs z)) .digit
+unfolding digitOf signOf
+digit-by-sign b (pos w) p = sym (one-times (stepOf b (restOf b p w) .digit))
+digit-by-sign b (negsuc w) p = sym (minus-one-times (stepOf b (restOf b p (suc w)) .digit))
 
 -- each digit is at most h = b/2 in size
 pub digit-bound : (b : ℕ) (z : ℤ) (p : ℕ) → 2 ≤ b → natAbs (digitOf b z p) ≤ b / 2

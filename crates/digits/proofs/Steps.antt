@@ -1,18 +1,19 @@
 -- One step of the digit rule.
-use mathlib.Core.Path.{_≡_, refl, sym, _∙_, ap, subst}
+use mathlib.Core.Path.{_≡_, refl, sym, _∙_, ap, ap₂, subst}
+use mathlib.Core.Bool.{Bool, true, false, cond}
 use mathlib.Core.Logic.{_≢_, ⊎-elim}
 use Prim.Native.Nat.{ℕ, zero, suc, _+_, _*_, _-_, _/_, _%_, _^_, _<_, _≤_}
 use native.Mathlib.Omega.{arith}
-use native.Mathlib.Nat.{div-add-mod', mod-lt, mul-div-cancel, add-zero, mul-zero, mul-one, pow-suc, div-eq-of-lt, zero-mod, zero-div, div-eq-of-lt-le, le-of-mul-le-mul-right, lt-of-mul-lt-mul-right}
+use native.Mathlib.Nat.{div-add-mod', mod-lt, mul-div-cancel, add-zero, mul-zero, mul-one, mul-le-mul-left, pow-suc, div-eq-of-lt, zero-mod, zero-div, div-eq-of-lt-le, le-of-mul-le-mul-right, lt-of-mul-lt-mul-right}
 use native.Mathlib.Numerals.{add-one-le}
 use lib.Arith.{lt→nleb}
 use lib.Dec.{leb, le→leb}
-use lib.IntN.{pos, negsuc, negℤ, natAbs, _+ℤ_, _-ℤ_, _*ℤ_, +ℤ-idr, pos-ne-negsuc}
+use lib.IntN.{ℤ, pos, negsuc, negℤ, natAbs, _+ℤ_, _-ℤ_, _*ℤ_, +ℤ-idr, pos-ne-negsuc}
 use Rattle.integers.proofs.Tests.{cond-yes, cond-no, le-or-lt}
 use Rattle.integers.proofs.Ring.{diff-eq, ring}
 use Rattle.integers.proofs.Sizes.{natAbs-negate}
 use Rattle.digits.specs.declared.Step.{Step}
-use Rattle.digits.specs.Digits.{stepOf}
+use Rattle.digits.specs.Digits.{stepOf, carryOf}
 
 module _ (b w : ℕ) (base : 2 ≤ b) where
   -- (w − d)/b is w / b
@@ -48,9 +49,26 @@ step-zero b = rw (zero-mod b, zero-div b) (cond-yes (leb 0 (b / 2)) _ _ (le→le
 pub below-base : (d b : ℕ) → d ≤ b → pos d -ℤ pos b ≡ negℤ (pos (b - d))
 below-base d b h = simp ring (diff-eq _ _ _ _ (omega arith))
 
--- the carry of a step, 1 where d > h, else 0
-abbrev pub carry : ℕ → ℕ → ℕ
-carry b w = (w % b + b - 1 - b / 2) / b
+-- For every base b and every d below b, the carry is the 1 that the rule adds, or 0, and d less b times the carry is the rule's digit.
+module _ (b d : ℕ) (base : 2 ≤ b) (below : d < b) where
+  carry-none : d ≤ b / 2 → carryOf b d ≡ 0
+  carry-none h = div-eq-of-lt (omega arith)
+
+  carry-one : b / 2 < d → carryOf b d ≡ 1
+  carry-one h = div-eq-of-lt-le b (omega arith) (omega arith)
+
+  pub by-arithmetic : (carryOf b d ≡ cond (leb d (b / 2)) 0 1) × (pos d -ℤ pos (b * carryOf b d) ≡ cond (leb d (b / 2)) (pos d) (pos d -ℤ pos b))
+  by-arithmetic = ⊎-elim
+      (λ (h : d ≤ b / 2).
+      let yes = le→leb d (b / 2) h in
+      (carry-none h ∙ sym (cond-yes (leb d (b / 2)) 0 1 yes), rw (carry-none h, mul-zero b) (+ℤ-idr (pos d) ∙ sym (cond-yes (leb d (b / 2)) (pos d) (pos d -ℤ pos b) yes))))
+      (λ (h : b / 2 < d).
+      let no = lt→nleb d (b / 2) h in
+      (carry-one h ∙ sym (cond-no (leb d (b / 2)) 0 1 no), rw (carry-one h, mul-one b) (sym (cond-no (leb d (b / 2)) (pos d) (pos d -ℤ pos b) no))))
+      (le-or-lt d (b / 2))
+
+  pub carry-most : carryOf b d ≤ 1
+  carry-most = ⊎-elim (λ (h : d ≤ b / 2). omega (arith, carry-none h)) (λ (h : b / 2 < d). omega (arith, carry-one h)) (le-or-lt d (b / 2))
 
 module _ (b w : ℕ) (base : 2 ≤ b) where
   -- a step's digit is at most h = b/2 in size
@@ -80,18 +98,24 @@ module _ (b w : ℕ) (base : 2 ≤ b) where
       none zero d e = refl
       none (suc q) d e = absurd (omega arith)
 
-  -- the step without a branch, by its carry
-  pub by-carry : stepOf b w ≡ record { digit = pos (w % b) -ℤ pos (b * carry b w); rest = w / b + carry b w }
-  by-carry = ⊎-elim
-      (λ (h : w % b ≤ b / 2). rw (none h, mul-zero b, add-zero (w / b), step-low b w base h) (ap (λ z. record { digit = z; rest = w / b }) (sym (+ℤ-idr (pos (w % b))))))
-      (λ (h : b / 2 < w % b). rw (one h, mul-one b) (step-high b w base h))
-      (le-or-lt (w % b) (b / 2))
-    where
-      none : w % b ≤ b / 2 → carry b w ≡ 0
-      none h = div-eq-of-lt (omega arith)
+  -- no step leaves more than there was
+  pub step-less : stepOf b w .rest ≤ w
+  step-less = step-cases b w base (λ s. s .rest ≤ w)
+      (λ q d e k. omega (arith, mul-le-mul-left q base))
+      (λ q d e l k. omega (arith, mul-le-mul-left q base))
 
-      one : b / 2 < w % b → carry b w ≡ 1
-      one h = div-eq-of-lt-le b (omega arith) (omega (arith, mod-lt w {m = b} (omega arith)))
+  -- the step by its carry
+  pub by-carry : stepOf b w ≡ record { digit = pos (w % b) -ℤ pos (b * carryOf b (w % b)); rest = w / b + carryOf b (w % b) }
+  unfolding stepOf
+  by-carry =
+      let a = by-arithmetic b (w % b) base (mod-lt w (omega arith)) in
+      apart (leb (w % b) (b / 2)) (pos (w % b)) (pos (w % b) -ℤ pos b) ((w - w % b) / b)
+      ∙ ap₂ (λ (z : ℤ) (c : ℕ). record { digit = z; rest = (w - w % b) / b + c }) (sym (a .1)) (sym (a .0))
+      ∙ ap (λ (q : ℕ). record { digit = pos (w % b) -ℤ pos (b * carryOf b (w % b)); rest = q + carryOf b (w % b) }) (quotient b w base)
+    where
+      apart : (c : Bool) (x y : ℤ) (q : ℕ) → _≡_ {A = Step} (cond c (record { digit = x; rest = q }) (record { digit = y; rest = q + 1 })) (record { digit = cond c x y; rest = q + cond c 0 1 })
+      apart true x y q = ap (λ (n : ℕ). record { digit = x; rest = n }) (sym (add-zero q))
+      apart false x y q = refl
 
 -- at an even base b = 2h the remainder h is a tie: its digit is h
 pub step-tie : (h w : ℕ) → 1 ≤ h → w % (2 * h) ≡ h → stepOf (2 * h) w .digit ≡ pos h

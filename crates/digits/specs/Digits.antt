@@ -15,10 +15,19 @@ stepOf b w =
     (record { digit = pos (w % b); rest = (w - w % b) / b })
     (record { digit = pos (w % b) -ℤ pos b; rest = (w - w % b) / b + 1 })
 
+-- the carry of d: (d + b − 1 − h) divided by b, rounded down; it is the 1 that the rule adds, or 0 (`by-arithmetic`)
+abbrev pub carryOf : ℕ → ℕ → ℕ
+carryOf b d = (d + b - 1 - b / 2) / b
+
 -- what is left of the size w after p steps
 unfoldable pub restOf : ℕ → ℕ → ℕ → ℕ
 restOf b zero w = w
 restOf b (suc p) w = stepOf b (restOf b p w) .rest
+
+-- the sign of an entry: −1 below 0, else 1
+unfoldable pub signOf : ℤ → ℤ
+signOf (pos w) = pos 1
+signOf (negsuc w) = negsuc 0
 
 -- digit p of an entry: a negative entry has the negated digits of its size
 unfoldable pub digitOf : ℕ → ℤ → ℕ → ℤ

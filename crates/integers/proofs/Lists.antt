@@ -1,5 +1,5 @@
 -- The laws of lists over an index.
-use mathlib.Core.Path.{_≡_, refl, sym, _∙_, ap, ap₂}
+use mathlib.Core.Path.{_≡_, refl, sym, _∙_, ap, ap₂, subst}
 use mathlib.Core.Logic.{⊎-elim}
 use mathlib.Core.Bool.{Bool}
 use mathlib.Core.List.{List, [], _∷_, _++_, map, append-nil}
@@ -8,7 +8,7 @@ use native.Mathlib.Omega.{arith}
 use native.Mathlib.Nat.{le-of-suc-le-suc}
 use borrow.Author.Count.{below-more}
 use lib.Dec.{T}
-use lib.ListN.{length, getD, set, take, drop, replicate, length-replicate, getD-replicate, length-append, length-take, length-drop, length-set, drop-of-length-le, List·getD-append}
+use lib.ListN.{length, getD, set, take, drop, replicate, length-replicate, getD-replicate, length-append, length-take, length-drop, length-set, drop-of-length-le, List·getD-append, List·getD-eq-default}
 use lib.Seq.{ext-getD, getD-set-same, getD-set-other, getD-take, getD-drop, getD-append-add, length-take-le, take-at, drop-at}
 use Rattle.integers.proofs.Tests.{le-or-lt, and-fst, and-snd}
 use Rattle.integers.specs.Lists.{build, every}
@@ -41,6 +41,19 @@ module _ {A : Type 0} where
   every-at P d [] t i h = absurd (omega arith)
   every-at P d (x ∷ xs) t zero h = and-fst (P x) (every P xs) t
   every-at P d (x ∷ xs) t (suc i) h = every-at P d xs (and-snd (P x) (every P xs) t) i (le-of-suc-le-suc h)
+
+  -- what holds of each element holds of whatever is read, where it holds of what stands past the end
+  pub everywhere : (P : A → Type 0) (d : A) (xs : List A) → P d → ((i : ℕ) → i < length xs → P (getD xs i d)) → (i : ℕ) → P (getD xs i d)
+  everywhere P d xs past h i = ⊎-elim
+      (λ (l : length xs ≤ i). subst P (sym (List·getD-eq-default xs d l)) past)
+      (λ (l : i < length xs). h i l)
+      (le-or-lt (length xs) i)
+
+  -- and of whatever is read of a part
+  pub part-everywhere : (P : A → Type 0) (d : A) (a k : ℕ) (xs : List A) → P d → ((i : ℕ) → P (getD xs i d)) → (i : ℕ) → P (getD (take k (drop a xs)) i d)
+  part-everywhere P d a k xs past h = everywhere P d (take k (drop a xs)) past (λ i l.
+      let within : i < k = omega (arith, length-take k (drop a xs)) in
+      subst P (sym (getD-take k (drop a xs) i d within ∙ getD-drop a xs i d)) (h (a + i)))
 
 -- element i of a mapped list, whatever stands for the elements beyond the end
 pub getD-map : {A B : Type 0} (f : A → B) (xs : List A) (i : ℕ) (d : B) (e : A) → i < length xs → getD (map f xs) i d ≡ f (getD xs i e)

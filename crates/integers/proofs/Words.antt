@@ -84,20 +84,6 @@ unfolding signedBy
 natAbs-signedBy true n = natAbs-negate (pos n)
 natAbs-signedBy false n = refl
 
--- the machine's 0 − s of a signed word s that holds z, any but −2^63
-module _ (z : ℤ) (small : natAbs z < 2 ^ 63) where
-  minus-is : pos 0 -ℤ toZ w64 (ofZ w64 z) ≡ negℤ z
-  minus-is = ap (λ (y : ℤ). pos 0 -ℤ y) (toZ-ofZ w64 z (fits-by-size z small)) ∙ +ℤ-idl (negℤ z)
-
-  fits-negated : SFits w64 (negℤ z)
-  fits-negated = fits-by-size (negℤ z) (omega (arith, natAbs-negate z))
-
-  pub minus-fits : SFits w64 (pos 0 -ℤ toZ w64 (ofZ w64 z))
-  minus-fits = subst (SFits w64) (sym minus-is) fits-negated
-
-  pub read-minus : toZ w64 (ofZ w64 (pos 0 -ℤ toZ w64 (ofZ w64 z))) ≡ negℤ z
-  read-minus = ap (λ (y : ℤ). toZ w64 (ofZ w64 y)) minus-is ∙ toZ-ofZ w64 (negℤ z) fits-negated
-
 -- What the machine has as u is the number a, which fits the width w: what a cast, a sum or a product asks of u, and what is read of it.
 pub record Held (w : Width) (u a : ℤ) : Type 0 where
   pub fits : SFits w u

@@ -8,9 +8,10 @@ use native.Mathlib.Omega.{arith}
 use native.Mathlib.Nat.{eq-or-lt-of-le, le-of-suc-le-suc, div-add-mod', div-lt-iff-lt-mul, mod-lt}
 use lib.Dec.{T, not-T, eqb, leb, leb→le, le→leb, lt→ltb, nleb→lt, eqb→eq, eqb-refl}
 use lib.IntN.{ℤ, pos, negsuc, natAbs}
-use lib.ListN.{length, getD, List·getD-eq-default}
+use lib.ListN.{length, getD}
 use lib.Signed.{leZ, _<ℤ_, clashℤ}
-use Rattle.integers.proofs.Tests.{and-fst, and-snd, and-both, le-or-lt, same-test}
+use Rattle.integers.proofs.Lists.{everywhere}
+use Rattle.integers.proofs.Tests.{and-fst, and-snd, and-both, same-test}
 use Rattle.integers.specs.Residues.{word}
 use Rattle.matrices.specs.Matrices.{Matrix, Agree}
 use Rattle.matrices.specs.Tables.{entry, signed}
@@ -152,12 +153,13 @@ pub entries-everywhere : {E : Type 0} (d : E) (rows cols : ℕ) (P : E → Type 
 entries-everywhere d rows zero P xs h k l = absurd (omega arith)
 entries-everywhere d rows (suc c) P xs h k l = rw (div-add-mod' k (suc c)) at (h (k / suc c) (k % suc c) (div-lt-iff-lt-mul (omega arith) .1 l) (mod-lt k (omega arith)))
 
--- and a bound of a matrix holds past the list's end too
+-- and past the list's end too where it holds of 0
+pub wholes-everywhere : (rows cols : ℕ) (P : ℤ → Type 0) (xs : List ℤ) → P (pos 0) → length xs ≡ rows * cols → ((i j : ℕ) → i < rows → j < cols → P (signed cols xs i j)) → (k : ℕ) → P (getD xs k (pos 0))
+wholes-everywhere rows cols P xs zero-too long h = everywhere P (pos 0) xs zero-too (λ k l. entries-everywhere (pos 0) rows cols P xs h k (omega arith))
+
+-- as a bound does
 pub bounded-everywhere : (rows cols M : ℕ) (xs : List ℤ) → length xs ≡ rows * cols → Bounded rows cols M (signed cols xs) → (k : ℕ) → natAbs (getD xs k (pos 0)) ≤ M
-bounded-everywhere rows cols M xs long h k = ⊎-elim
-    (λ (l : length xs ≤ k). rw (List·getD-eq-default xs (pos 0) {n = k} l) (omega arith))
-    (λ (l : k < length xs). entries-everywhere (pos 0) rows cols (λ z. natAbs z ≤ M) xs h k (omega arith))
-    (le-or-lt (length xs) k)
+bounded-everywhere rows cols M xs long h = wholes-everywhere rows cols (λ z. natAbs z ≤ M) xs (omega arith) long h
 
 -- two matrices of which one is bounded where the other is pass 10 or 11 alike
 pub same-bound : (rows cols rows′ cols′ M : ℕ) (X X′ : Matrix) → Bounded rows′ cols′ M X′ ↔ Bounded rows cols M X → bounded rows cols M X ≡ bounded rows′ cols′ M X′
@@ -166,12 +168,9 @@ same-bound rows cols rows′ cols′ M X X′ b =
     let g = bounded-iff rows′ cols′ M X′ in
     same-test (bounded rows cols M X) (bounded rows′ cols′ M X′) (λ h. g .1 (b .1 (f .0 h))) (λ h. f .1 (b .0 (g .0 h)))
 
--- the same of a matrix stored as its lower triangle
+-- a bound of a matrix stored as its lower triangle holds past the list's end too
 pub mirrored-everywhere : (n M : ℕ) (xs : List ℤ) → length xs ≡ triangular n → Bounded n n M (mirrored xs) → (k : ℕ) → natAbs (getD xs k (pos 0)) ≤ M
-mirrored-everywhere n M xs long h k = ⊎-elim
-    (λ (l : length xs ≤ k). rw (List·getD-eq-default xs (pos 0) {n = k} l) (omega arith))
-    (λ (l : k < length xs). mirrored-bounds n M xs .0 h k (rw long at l))
-    (le-or-lt (length xs) k)
+mirrored-everywhere n M xs long h = everywhere (λ z. natAbs z ≤ M) (pos 0) xs (omega arith) (λ k l. mirrored-bounds n M xs .0 h k (rw long at l))
 
 -- and the test of its entries is one of the list's elements
 pub mirrored-test : (n M : ℕ) (xs : List ℤ) → bounded n n M (mirrored xs) ≡ all (triangular n) (λ k. leb (natAbs (getD xs k (pos 0))) M)

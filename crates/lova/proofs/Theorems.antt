@@ -2,14 +2,19 @@
 -- the equation with the same definition, for all inputs.
 use mathlib.Core.Path.{_≡_}
 use mathlib.Core.Logic.{_↔_, _⊎_, _≢_}
+use mathlib.Core.Bool.{cond}
 use mathlib.Core.List.{List}
-use Prim.Native.Nat.{ℕ, _<_, _≤_}
+use Prim.Native.Nat.{ℕ, _+_, _*_, _/_, _%_, _<_, _≤_}
 use native.Mathlib.Omega.{arith}
-use lib.IntN.{ℤ, pos, natAbs}
+use lib.Dec.{leb}
+use lib.IntN.{ℤ, pos, natAbs, _-ℤ_}
 use lib.ListN.{length, getD}
 use Rattle.matrices.specs.Matrices.{Agree, Symmetric}
 use Rattle.matrices.proofs.Triangles.{mirrored-symmetric, mirrored-bounds}
 use Rattle.settings.specs.Settings.{Parameters, hOf, HOf, settingRefusal}
+use Rattle.settings.proofs.Accepted.{accepted}
+use Rattle.digits.specs.Digits.{stepOf, carryOf}
+use Rattle.digits.proofs.Steps.{by-arithmetic, by-carry}
 use Rattle.lova.specs.Answers.{afterSetting, done, «yes», norm, commitment, long, products, member, refused, ends}
 use Rattle.lova.specs.declared.Profile.{Profile}
 use Rattle.lova.specs.declared.Profile.the-variants.{General, Fresh}
@@ -204,6 +209,19 @@ module _ (p : Parameters) (f : Profile) where
       → (verdictIn p f I₁ I₂ M C out) .answer ≡ norm
   unsymmetric-is-norm I₁ I₂ M C out proper within uneven =
       Exact.norm-exactly p f I₁ I₂ M C out proper .1 (within, λ first. uneven (first-symmetric p I₁ (repeatedInstance p f I₂) (meant p f M) (meant-symmetric p f M) first))
+
+-- ---- request 4: the digit and what the rule adds, by arithmetic
+
+module _ (p : Parameters) (ok : settingRefusal p ≡ 0) where
+  -- for every accepted b and every d below b: the carry is the 1 that the rule adds, or 0, and d less b times the carry is the rule's digit
+  pub digit-by-arithmetic : (d : ℕ) → d < p .b
+      → (carryOf (p .b) d ≡ cond (leb d (hOf p)) 0 1) × (pos d -ℤ pos (p .b * carryOf (p .b) d) ≡ cond (leb d (hOf p)) (pos d) (pos d -ℤ pos (p .b)))
+  digit-by-arithmetic d below = by-arithmetic (p .b) d (accepted p ok .b-low) below
+
+  -- so the rule's step for a size w, with d = w modulo b
+  pub step-by-arithmetic : (w : ℕ)
+      → stepOf (p .b) w ≡ record { digit = pos (w % p .b) -ℤ pos (p .b * carryOf (p .b) (w % p .b)); rest = w / p .b + carryOf (p .b) (w % p .b) }
+  step-by-arithmetic w = by-carry (p .b) w (accepted p ok .b-low)
 
 -- ---- the relation test and the trees
 

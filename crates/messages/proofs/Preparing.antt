@@ -15,6 +15,7 @@ use Rattle.matrices.proofs.Tables.{length-table, entry-table, table-cong}
 use Rattle.matrices.proofs.Triangles.{lower-cong}
 use Rattle.settings.specs.declared.Setting.{Setting}
 use Rattle.settings.specs.Settings.{Parameters, kOf, hOf, parametersOf}
+use Rattle.digits.specs.Bases.{AllInReach}
 use Rattle.small_rows.specs.Small.{Within, SmallMatrix, SmallBlocks}
 use Rattle.small_rows.proofs.Small.{small-blocks}
 use Rattle.lova.specs.declared.Profile.{Profile}
@@ -24,7 +25,7 @@ use Rattle.lova.specs.Calls.{Rebuilt, ProperMessage}
 use Rattle.lova.specs.Fold.{beside, digitWitness}
 use Rattle.lova.specs.Message.{preparedAs, preparedIn}
 use Rattle.lova.proofs.Gadget.{digit-size}
-use Rattle.lova.proofs.NeverWraps.{columns-fit}
+use Rattle.lova.proofs.NeverWraps.{columns-fit, entries-in-reach}
 use Rattle.lova.proofs.Tests.{bounded-everywhere}
 use Rattle.lova.proofs.Rebuilding.{rebuilt-accepted}
 use Rattle.lova.proofs.Widths.{columns-are, wide-of, wide-few}
@@ -68,6 +69,11 @@ module _ (s : Setting) (whole : Rebuilt s) (f : Profile) (right : ℕ) (is : rig
 
     pub witness-lengths : (length S₁ ≡ s .m * s .t) × (length S₂ ≡ s .m * right) × (length (out .S~) ≡ s .m * ((s .t + right) * kOf q))
     witness-lengths = (cross-lengths .0, cross-lengths .1, rw sent (proper .lengths .3 .1))
+
+    pub witness-reach : AllInReach (s .b) S₁ × AllInReach (s .b) S₂
+    witness-reach =
+        let acc = rebuilt-accepted s whole in
+        (entries-in-reach q acc General S₁ (proper .lengths .1) (proper .columns .0), entries-in-reach q acc f S₂ (proper .lengths .2) (proper .columns .1))
 
     -- with the digit witness written
     module _ (S~ : List ℤ) (made : S~ ≡ table (s .m) ((s .t + right) * kOf q) (digits right)) where

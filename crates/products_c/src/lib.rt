@@ -1,12 +1,14 @@
-// The four costly products as C functions, so that the speed table can time each of them alone, and the wrapping
-// product and T', whose machine code the gate looks at. A caller from C owes what the `requires` say; `include/lova.h`
-// has the functions to use.
+// The digits and the four costly products as C functions, so that the speed table can time each of them alone, and the
+// wrapping product and T', for the gate's look at machine code. A caller from C owes what the `requires` say;
+// `include/lova.h` has the functions to use.
 ghost use mathlib.Core.Path.{_≡_};
-ghost use Prim.Native.Nat.{_*_, _%_, _^_, _≤_};
+ghost use Prim.Native.Nat.{_*_, _%_, _^_, _≤_, _<_};
 ghost use lib.ListN.{length};
 ghost use Rattle.matrices.specs.Matrices.{product, gram, bothSides};
 ghost use Rattle.matrices.specs.Tables.{table, residues, signed, unsigned, challenge};
 ghost use Rattle.matrices.specs.Triangles.{triangular, lower, mirrored};
+ghost use Rattle.digits.specs.Bases.{AllInReach};
+ghost use Rattle.digits.specs.Digits.{rowDigits};
 ghost use Rattle.small_rows.specs.Small.{Within, SmallMatrix, SmallBlocks};
 ghost use Rattle.small_rows.specs.Columns.{byColumns};
 
@@ -16,6 +18,15 @@ pub extern "C" fn product_word(x: u64, y: u64) -> u64
     ensures { λ r. ⌜ r ≡ (x * y) % 2 ^ 64 ⌝ }
 {
     integers::wrapping_mul(x, y)
+}
+
+// S~: the k digits of each entry of s.
+#[no_mangle]
+pub extern "C" fn digits_ss(s: &[i64], b: u64, k: usize, out: &mut [i64])
+    requires { ⌜ (2 ≤ b) × (b < 2 ^ 16) × AllInReach b (now s) × (length (now out) ≡ length (now s) * k) ⌝ }
+    ensures { λ _. ⌜ now (out .exit) ≡ rowDigits b k (now (s .entry)) ⌝ }
+{
+    digits::write_row(s, digits::Base::new(b), k, out);
 }
 
 // D~: the Gram matrix of s, an m by `cols` matrix, as its lower triangle.

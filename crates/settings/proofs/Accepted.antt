@@ -42,6 +42,8 @@ pub record Accepted (p : Parameters) : Type 0 where
   pub digits-small : hOf p ≤ 1024
   pub products-small : NOf p * HOf p ≤ 2 ^ 31
   pub folds-small : NOf p * (NOf p * HOf p) ≤ p .bound
+  -- an entry of a column within B is small beside b
+  pub sizes-small : (w : ℕ) → w * w ≤ p .bound → w * p .b < 2 ^ 33
 
 square-le : (x y : ℕ) → x * x ≤ y * y → x ≤ y
 square-le x y h = by-contra x y (λ l. omega (arith, mul-le-mul l l))
@@ -66,6 +68,13 @@ digits-by h m x r m-low width reach large = by-contra h 1024 (λ l.
     let g : 4202500 ≤ r = omega arith in
     let b : 1025 * 1025 * 1 ≤ h * h * m = mul-le-mul a m-low in
     omega (arith, mul-le-mul b (mul-le-mul g g)))
+
+-- width gives h r ≤ 2^31, and a size within B < x² is at most the repunit r
+sizes-by : (w h m b x r bound : ℕ) → 1 ≤ h → 1 ≤ m → b ≤ 2 * h + 1 → h * h * m * (r * r) ≤ 2 ^ 62 → x ≤ r → bound < x * x → w * w ≤ bound → w * b < 2 ^ 33
+sizes-by w h m b x r bound h-low m-low half width reach above within =
+    let size : w ≤ r = square-le w r (omega (arith, mul-le-mul reach reach)) in
+    let wide : h * r ≤ 2 ^ 31 = square-le (h * r) (2 ^ 31) (omega (arith, mul-le-mul-left (h * h * (r * r)) m-low)) in
+    omega (arith, mul-le-mul size half, mul-le-mul-right r h-low)
 
 module _ (p : Parameters) (ok : Meets limits p) where
   b-low : 2 ≤ p .b
@@ -140,6 +149,7 @@ meets-accepted p ok =
       digits-small = small p ok;
       products-small = products-by (NOf p) (hOf p) (p .m) (top p ok) (repunit (p .b) (kOf p)) (p .bound) (ok .width) (reach p ok) (ok .growth) (below p ok);
       folds-small = omega (arith, ok .growth);
+      sizes-small = λ w within. sizes-by w (hOf p) (p .m) (p .b) (top p ok) (repunit (p .b) (kOf p)) (p .bound) (half-low p ok) (ok .ranges .sizes .m .0) (halves p ok .1) (ok .width) (reach p ok) (below p ok) within;
     }
 
 -- every operation starts from here

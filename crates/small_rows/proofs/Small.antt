@@ -1,18 +1,17 @@
 -- Lists of numbers of at most M in size.
-use mathlib.Core.Path.{_≡_, refl, sym, subst}
-use mathlib.Core.Logic.{⊎-elim}
+use mathlib.Core.Path.{_≡_, refl}
 use mathlib.Core.List.{List}
 use Prim.Native.Nat.{ℕ, zero, suc, _+_, _*_, _^_, _<_, _≤_}
 use native.Mathlib.Omega.{arith}
 use native.Mathlib.Nat.{mul-le-mul}
 use native.Mathlib.Decide.{ℕ-discrete}
-use lib.ListN.{length, getD, set, take, drop, replicate, length-take, List·getD-eq-default}
-use lib.Seq.{getD-set-same, getD-set-other, getD-take, getD-drop}
+use lib.ListN.{length, getD, set, take, drop, replicate}
+use lib.Seq.{getD-set-same, getD-set-other}
 use lib.IntN.{ℤ, pos, natAbs, _*ℤ_}
 use mir.Syntax.{w16, w64}
 use mir.Val.{SFits, toZ, ofZ}
 use mir.ValLaws.{toZ-ofZ}
-use Rattle.integers.proofs.Tests.{le-or-lt}
+use Rattle.integers.proofs.Lists.{everywhere, part-everywhere}
 use Rattle.integers.proofs.Sizes.{natAbs-*, fits-size}
 use Rattle.integers.proofs.Words.{Held, held}
 use Rattle.integers.proofs.Sums.{sumℕ-le}
@@ -22,10 +21,7 @@ use Rattle.small_rows.specs.Small.{Within, SmallBlocks}
 module _ (M : ℕ) where
   -- past a list's end there is nothing to show
   pub within-list : (xs : List ℤ) → ((i : ℕ) → i < length xs → natAbs (getD xs i (pos 0)) ≤ M) → Within M xs
-  within-list xs h i = ⊎-elim
-      (λ (l : length xs ≤ i). subst (λ (z : ℤ). natAbs z ≤ M) (sym (List·getD-eq-default xs (pos 0) l)) (omega arith))
-      (λ (l : i < length xs). h i l)
-      (le-or-lt (length xs) i)
+  within-list xs h = everywhere (λ z. natAbs z ≤ M) (pos 0) xs (omega arith) h
 
   pub within-set : (xs : List ℤ) (i : ℕ) (v : ℤ) → i < length xs → natAbs v ≤ M → Within M xs → Within M (set xs i v)
   within-set xs i v room hv small k = go (ℕ-discrete k i)
@@ -36,9 +32,7 @@ module _ (M : ℕ) where
 
   -- a part of a list
   pub within-part : (a k : ℕ) (xs : List ℤ) → Within M xs → Within M (take k (drop a xs))
-  within-part a k xs small = within-list (take k (drop a xs)) (λ i l.
-      let h : i < k = omega (arith, length-take k (drop a xs)) in
-      rw (getD-take k (drop a xs) i (pos 0) h, getD-drop a xs i (pos 0)) (small (a + i)))
+  within-part a k xs small = part-everywhere (λ z. natAbs z ≤ M) (pos 0) a k xs (omega arith) small
 
 pub zeros : (n x : ℕ) → getD (replicate n (pos 0)) x (pos 0) ≡ pos 0
 zeros zero x = refl

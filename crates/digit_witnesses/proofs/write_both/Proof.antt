@@ -28,7 +28,7 @@ slice-aggregate-write-row : tie.Need-slice-aggregate-write-row
 slice-aggregate-write-row c = let a = c .before .args in sym (first-part (a .left .now) (a .right .now) (a .row .now) (a .k) (c .before .pre .1))
 
 write-row-requires : tie.Need-write-row-requires
-write-row-requires c κs = let a = c .before .args in (c .before .pre .0, first-part (a .left .now) (a .right .now) (a .row .now) (a .k) (c .before .pre .1))
+write-row-requires c κs = let a = c .before .args in ((c .before .pre .0 .0, c .before .pre .0 .1), first-part (a .left .now) (a .right .now) (a .row .now) (a .k) (c .before .pre .1))
 
 mul-write-row : tie.Need-mul-write-row
 mul-write-row c = search needs
@@ -53,10 +53,10 @@ returns c =
     let a = c .before .before .before .before .before .before .args in
     let ys = c .before .before .before .before .write-row .last .1 .1 .1 .0 in
     let zs = c .before .write-row2 .last .1 .1 .1 .0 in
-    let left : ys ≡ rowDigits (a .b) (a .k) (a .left .now) = c .before .before .before .before .write-row .ensures in
-    two-parts (length (a .left .now) * a .k) (a .row .now) ys zs (ap length left ∙ length-rowDigits (a .b) (a .k) (a .left .now))
+    let left : ys ≡ rowDigits (a .base .b) (a .k) (a .left .now) = c .before .before .before .before .write-row .ensures in
+    two-parts (length (a .left .now) * a .k) (a .row .now) ys zs (ap length left ∙ length-rowDigits (a .base .b) (a .k) (a .left .now))
     ∙ ap₂ _++_ left (c .before .write-row2 .ensures)
-    ∙ rowDigits-append (a .b) (a .k) (a .left .now) (a .right .now)
+    ∙ rowDigits-append (a .base .b) (a .k) (a .left .now) (a .right .now)
 
 pub write-both-spec : {M : Type 1} → statement M
 write-both-spec =

@@ -13,7 +13,7 @@ use Rattle.lova.proofs.Refusals.{message-proper}
 use Rattle.lova.proofs.Rebuilding.{rebuilt, rebuilt-accepted}
 use Rattle.lova.proofs.WaysOut.{out-by-setting, out-by-own, none-applied, out-at-end}
 use Rattle.lova.proofs.Widths.{right-most, right-few, wide-few}
-use Rattle.messages.proofs.Preparing.{cross-lengths, cross-sizes, witness-lengths, commitment-lengths, gram-asks, prepared-is}
+use Rattle.messages.proofs.Preparing.{cross-lengths, cross-sizes, witness-lengths, witness-reach, commitment-lengths, gram-asks, prepared-is}
 use Rattle.messages.proofs.message.Statement.{statement}
 use Rattle.messages.proofs.message.Tie as tie
 
@@ -125,7 +125,10 @@ write-witness-requires c κs =
     let n = else-1 e .before in
     let s = start n in (
       (again (else-1 e), right-most (n .rebuilt .result .setting) (again (else-1 e)) (s .args .profile) (r .right .result) (r .right .ensures)),
-      witness-lengths (n .rebuilt .result .setting) (again (else-1 e)) (s .args .profile) (r .right .result) (r .right .ensures) (s .args .a .now) (s .args .s1 .now) (s .args .s2 .now) (out s) (proper e),
+      (
+        witness-lengths (n .rebuilt .result .setting) (again (else-1 e)) (s .args .profile) (r .right .result) (r .right .ensures) (s .args .a .now) (s .args .s1 .now) (s .args .s2 .now) (out s) (proper e),
+        witness-reach (n .rebuilt .result .setting) (again (else-1 e)) (s .args .profile) (r .right .result) (r .right .ensures) (s .args .a .now) (s .args .s1 .now) (s .args .s2 .now) (out s) (proper e),
+      ),
     )
 
 commitment-requires : tie.Need-commitment-requires

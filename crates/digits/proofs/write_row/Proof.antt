@@ -1,28 +1,30 @@
--- `digit_witnesses::digit_rows::write_row` meets its contract: after j turns the blocks of the first j entries are written.
+-- `digits::write_row` meets its contract: after j turns the blocks of the first j entries are written.
 use borrow.Author.Needs.{needs}
+use mathlib.Core.Path.{sym, subst}
 use Prim.Native.Nat.{_+_, _*_, _-_, _≤_}
 use native.Mathlib.Omega.{arith}
 use native.Mathlib.Nat.{zero-mul, mul-le-mul-right}
-use lib.IntN.{pos}
+use lib.IntN.{ℤ, pos, natAbs}
 use lib.ListN.{length, getD}
 use mir.Syntax.{w64}
 use mir.Val.{toZ, ofZ}
 use mir.ValLaws.{toZ-ofZ}
 use Rattle.integers.proofs.Lists.{Filled, filled-none, filled-all}
+use Rattle.digits.specs.Bases.{InReach}
 use Rattle.digits.proofs.Rows.{digitAt, block-end, row-more}
-use Rattle.digit_witnesses.proofs.digit_rows.write_row.Statement.{statement}
-use Rattle.digit_witnesses.proofs.digit_rows.write_row.Tie as tie
+use Rattle.digits.proofs.write_row.Statement.{statement}
+use Rattle.digits.proofs.write_row.Tie as tie
 
 abbrev Inv-loop : tie.InvT-loop
-Inv-loop s b k row₀ j₀ row j = (j ≤ length s) × Filled (length s * k) (digitAt b k s) (pos 0) (j * k) row
+Inv-loop s base k row₀ j₀ row j = (j ≤ length s) × Filled (length s * k) (digitAt (base .b) k s) (pos 0) (j * k) row
 
 abbrev μ-loop : tie.MeasureT-loop
-μ-loop s b k row₀ j₀ row j = length s - j
+μ-loop s base k row₀ j₀ row j = length s - j
 
 loop-holds : tie.Need-loop-holds Inv-loop μ-loop
 loop-holds c =
     let a = c .args in
-    (omega arith, rw (zero-mul (a .k)) (filled-none (length (a .s .now) * a .k) (digitAt (a .b) (a .k) (a .s .now)) (pos 0) (a .row .now) (c .pre .1)))
+    (omega arith, rw (zero-mul (a .k)) (filled-none (length (a .s .now) * a .k) (digitAt (a .base .b) (a .k) (a .s .now)) (pos 0) (a .row .now) (c .pre .1)))
 
 mul-start : tie.Need-mul-start Inv-loop μ-loop
 mul-start c = omega arith
@@ -49,7 +51,11 @@ part-write-digits-end : tie.Need-part-write-digits-end Inv-loop μ-loop
 part-write-digits-end c = omega (arith, block-end (c .before .before .loop .j) _ (c .before .before .before .args .k) (c .before .loop-test .taken))
 
 write-digits-requires : tie.Need-write-digits-requires Inv-loop μ-loop
-write-digits-requires c κs = omega arith
+write-digits-requires c κs =
+    let l = c .before .before .before in
+    let s = l .before in
+    let z = getD (s .args .s .now) (l .loop .j) (pos 0) in
+    (s .pre .0 .0, subst (λ (y : ℤ). InReach (s .args .base .b) (natAbs y)) (sym (toZ-ofZ w64 z (record { sfits = c .before .write-digits-arg .given }))) (s .pre .0 .1 (l .loop .j)))
 
 add-j : tie.Need-add-j Inv-loop μ-loop
 add-j c = omega arith
@@ -64,7 +70,7 @@ loop-again c =
     let l = t .before .loop in
     let z = getD (a .s .now) (l .j) (pos 0) in (
       omega arith,
-      row-more (a .b) (a .k) (l .j) (l .j * a .k + a .k - l .j * a .k) (toZ w64 (ofZ w64 z)) (a .s .now) (l .row) _ (t .loop-test .taken) (omega arith)
+      row-more (a .base .b) (a .k) (l .j) (l .j * a .k + a .k - l .j * a .k) (toZ w64 (ofZ w64 z)) (a .s .now) (l .row) _ (t .loop-test .taken) (omega arith)
           (toZ-ofZ w64 z (record { sfits = c .before .before .before .write-digits-arg .given })) (c .before .write-digits .ensures) (l .inv .1),
     )
 
@@ -75,7 +81,7 @@ returns : tie.Need-returns Inv-loop μ-loop
 returns c =
     let a = c .before .before .args in
     let l = c .before .loop in
-    filled-all (length (a .s .now) * a .k) (digitAt (a .b) (a .k) (a .s .now)) (pos 0) (l .j * a .k) (l .row) (mul-le-mul-right (a .k) (c .loop-test .left)) (l .inv .1)
+    filled-all (length (a .s .now) * a .k) (digitAt (a .base .b) (a .k) (a .s .now)) (pos 0) (l .j * a .k) (l .row) (mul-le-mul-right (a .k) (c .loop-test .left)) (l .inv .1)
 
 pub write-row-spec : {M : Type 1} → statement M
 write-row-spec =
