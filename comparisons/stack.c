@@ -15,6 +15,7 @@ static uint64_t a[64 * 4096], t1[64 * 16], t2[64 * 16], tt[64 * 512], t_out[64 *
 static int64_t s1[4096 * 16], s2[4096 * 16], s[4096 * 16], ss[4096 * 512], dd[512 * 513 / 2];
 static int64_t d1[16 * 16], d2[16 * 16], v[16 * 16], d_out[16 * 16], joined_d[32 * 32];
 static uint8_t c[512 * 16];
+static uint32_t leaves1, leaves2, leaves_out;
 
 static uint64_t n, m, t, b, bound, columns, fresh_columns;
 static uint8_t code;
@@ -24,7 +25,7 @@ static size_t triangle(size_t rows) { return rows * (rows + 1) / 2; }
 
 static void setting(void) { code = lova_setting(n, m, t, b, bound, out, 35); }
 static void listed(void) { code = lova_listed(4, out, 5); }
-static void commit(void) { code = lova_commit(n, m, t, b, bound, a, n * m, s1, m * t, t1, n * t, d1, t * t); }
+static void commit(void) { code = lova_commit(n, m, t, b, bound, a, n * m, s1, m * t, t1, n * t, d1, t * t, &leaves1); }
 
 static void message(void)
 {
@@ -39,14 +40,14 @@ static void fold_witness(void)
 
 static void join(void)
 {
-    code = lova_join(n, m, t, b, bound, t1, n * t, d1, t * t, t2, n * t, d2, t * t, v, t * t,
-                     joined_t, 2 * n * t, joined_d, 4 * t * t);
+    code = lova_join(n, m, t, b, bound, t1, n * t, d1, t * t, leaves1, t2, n * t, d2, t * t, leaves2, v, t * t,
+                     joined_t, 2 * n * t, joined_d, 4 * t * t, &leaves_out);
 }
 
 static void verify(void)
 {
-    code = lova_verify(n, m, t, b, bound, t1, n * t, d1, t * t, t2, n * t, d2, t * t, v, t * t,
-                       tt, n * columns, dd, triangle(columns), c, columns * t, t_out, n * t, d_out, t * t);
+    code = lova_verify(n, m, t, b, bound, t1, n * t, d1, t * t, leaves1, t2, n * t, d2, t * t, leaves2, v, t * t,
+                       tt, n * columns, dd, triangle(columns), c, columns * t, t_out, n * t, d_out, t * t, &leaves_out);
 }
 
 static void test_relation(void)
@@ -57,7 +58,7 @@ static void test_relation(void)
 /* The fresh calls; the first m entries of S2 are the vector. */
 static void commit_fresh(void)
 {
-    code = lova_commit_fresh(n, m, t, b, bound, a, n * m, s2, m, t2, n, d2, 1);
+    code = lova_commit_fresh(n, m, t, b, bound, a, n * m, s2, m, t2, n, d2, 1, &leaves2);
 }
 
 static void message_fresh(void)
@@ -73,15 +74,15 @@ static void fold_witness_fresh(void)
 
 static void join_fresh(void)
 {
-    code = lova_join_fresh(n, m, t, b, bound, t1, n * t, d1, t * t, t2, n, d2, 1, v, t,
-                           joined_t, 2 * n * t, joined_d, 4 * t * t);
+    code = lova_join_fresh(n, m, t, b, bound, t1, n * t, d1, t * t, leaves1, t2, n, d2, 1, leaves2, v, t,
+                           joined_t, 2 * n * t, joined_d, 4 * t * t, &leaves_out);
 }
 
 static void verify_fresh(void)
 {
-    code = lova_verify_fresh(n, m, t, b, bound, t1, n * t, d1, t * t, t2, n, d2, 1, v, t,
+    code = lova_verify_fresh(n, m, t, b, bound, t1, n * t, d1, t * t, leaves1, t2, n, d2, 1, leaves2, v, t,
                              tt, n * fresh_columns, dd, triangle(fresh_columns), c, columns * t,
-                             t_out, n * t, d_out, t * t);
+                             t_out, n * t, d_out, t * t, &leaves_out);
 }
 
 /* The calls in an order in which each finds what it reads, and what the header says of them. */
@@ -138,7 +139,7 @@ static void fill(const uint64_t p[5])
     }
     for (size_t i = 0; i < columns * t; i++)
         c[i] = i % 3;
-    lova_commit(n, m, t, b, bound, a, n * m, s2, m * t, t2, n * t, d2, t * t);
+    lova_commit(n, m, t, b, bound, a, n * m, s2, m * t, t2, n * t, d2, t * t, &leaves2);
 }
 
 int main(void)

@@ -18,10 +18,14 @@
  *
  * h is b/2 rounded down, and H is h^2 m.
  *
- * Each function returns a code of `enum lova_code`. Of the refusals 1 to 12 the first that applies is given, in the order
- * that each function names. A call that does not return LOVA_DONE leaves every output as it was. There is no call that is
- * not allowed, as long as each pointer is aligned, is not null and has as many elements behind it as its length says, and
- * no output overlaps anything else that is lent to the same call.
+ * An instance is its T and D and the number of leaves under it, at most 2^32 - 1. That count is lent as a number, leaves1 or
+ * leaves2, and handed back in *leaves_out: 1 by lova_commit, and the sum of both by lova_join and by a yes of lova_verify.
+ *
+ * Each function returns a code of `enum lova_code`. Of the refusals the first that applies is given, in the order that each
+ * function names. A refusal leaves every output as it was. LOVA_LONG, LOVA_NORM and LOVA_COMMITMENT of the verdict leave T
+ * and D as they were and set *leaves_out to 0, a count that no call takes. There is no call that is not allowed, as long as
+ * each pointer is aligned, is not null and has as many elements behind it as its length says (leaves_out one), and no output
+ * overlaps anything else that is lent to the same call.
  *
  * The archive is for x86-64 and the System V calling convention. Nothing is allocated, and nothing is kept between calls:
  * any number of threads may call at once, as long as what one call writes is lent to no other at the time. A call takes no
@@ -53,6 +57,7 @@ enum lova_code {
     LOVA_DIGIT_PRODUCT = 10, /* an entry of D~ is above H in size */
     LOVA_DIGIT = 11,         /* an entry of S~ is above h in size */
     LOVA_UNLISTED = 12,      /* a number outside 1..4 asked of the house list */
+    LOVA_LEAVES = 15,        /* leaves1 or leaves2 is 0, or their sum is above 2^32 - 1 */
 
     /* words of the verdict and of the relation test */
     LOVA_NORM = 100,         /* verify: the first equation, of the products, fails, and no diagonal entry is long */
@@ -80,10 +85,10 @@ enum lova_stack {
     LOVA_LISTED_STACK = 4096
 };
 
-/* T = A S modulo 2^64 and D = S-transposed S. Refusals 1 to 6, 7, 8. */
+/* T = A S modulo 2^64, D = S-transposed S and one leaf. Refusals 1 to 6, 7, 8. */
 uint8_t lova_commit(uint64_t n, uint64_t m, uint64_t t, uint64_t b, uint64_t bound,
                     const uint64_t *a, size_t a_len, const int64_t *s, size_t s_len,
-                    uint64_t *t_out, size_t t_out_len, int64_t *d_out, size_t d_out_len);
+                    uint64_t *t_out, size_t t_out_len, int64_t *d_out, size_t d_out_len, uint32_t *leaves_out);
 
 /* V, T~ (tt), D~ (dd) and the digit witness S~ (ss) of the witnesses S1 and S2. Refusals 1 to 6, 7, 8. */
 uint8_t lova_message(uint64_t n, uint64_t m, uint64_t t, uint64_t b, uint64_t bound,
@@ -96,23 +101,23 @@ uint8_t lova_fold_witness(uint64_t n, uint64_t m, uint64_t t, uint64_t b, uint64
                           const int64_t *ss, size_t ss_len, const uint8_t *c, size_t c_len,
                           int64_t *s, size_t s_len);
 
-/* [T1 T2] and [D1 V; V-transposed D2]. Refusals 1 to 6, 7. */
+/* [T1 T2], [D1 V; V-transposed D2] and leaves1 + leaves2. Refusals 1 to 6, 7, 15. */
 uint8_t lova_join(uint64_t n, uint64_t m, uint64_t t, uint64_t b, uint64_t bound,
-                  const uint64_t *t1, size_t t1_len, const int64_t *d1, size_t d1_len,
-                  const uint64_t *t2, size_t t2_len, const int64_t *d2, size_t d2_len,
+                  const uint64_t *t1, size_t t1_len, const int64_t *d1, size_t d1_len, uint32_t leaves1,
+                  const uint64_t *t2, size_t t2_len, const int64_t *d2, size_t d2_len, uint32_t leaves2,
                   const int64_t *v, size_t v_len,
-                  uint64_t *t_out, size_t t_out_len, int64_t *d_out, size_t d_out_len);
+                  uint64_t *t_out, size_t t_out_len, int64_t *d_out, size_t d_out_len, uint32_t *leaves_out);
 
-/* The verdict: yes (LOVA_DONE) with T' and D' where no diagonal entry of D1 or D2 is above bound and both equations hold;
- * else LOVA_LONG, LOVA_NORM or LOVA_COMMITMENT, the first that applies. Entries and bound are compared as signed numbers,
- * so a negative entry is not long. Since D~ is symmetric, a D1 or D2 that is not fails the first equation. Refusals 1 to 6,
- * 7, 9, 10. */
+/* The verdict: yes (LOVA_DONE) with T', D' and leaves1 + leaves2 where no diagonal entry of D1 or D2 is above bound and both
+ * equations hold; else LOVA_LONG, LOVA_NORM or LOVA_COMMITMENT, the first that applies. Entries and bound are compared as
+ * signed numbers, so a negative entry is not long. Since D~ is symmetric, a D1 or D2 that is not fails the first equation.
+ * Refusals 1 to 6, 7, 15, 9, 10. */
 uint8_t lova_verify(uint64_t n, uint64_t m, uint64_t t, uint64_t b, uint64_t bound,
-                    const uint64_t *t1, size_t t1_len, const int64_t *d1, size_t d1_len,
-                    const uint64_t *t2, size_t t2_len, const int64_t *d2, size_t d2_len,
+                    const uint64_t *t1, size_t t1_len, const int64_t *d1, size_t d1_len, uint32_t leaves1,
+                    const uint64_t *t2, size_t t2_len, const int64_t *d2, size_t d2_len, uint32_t leaves2,
                     const int64_t *v, size_t v_len, const uint64_t *tt, size_t tt_len, const int64_t *dd, size_t dd_len,
                     const uint8_t *c, size_t c_len,
-                    uint64_t *t_out, size_t t_out_len, int64_t *d_out, size_t d_out_len);
+                    uint64_t *t_out, size_t t_out_len, int64_t *d_out, size_t d_out_len, uint32_t *leaves_out);
 
 /* Whether S is a witness of T, D: member (LOVA_DONE), else LOVA_LONG, LOVA_PRODUCTS or LOVA_COMMITMENT, the first that
  * applies. Refusals 1 to 6, 7. */
@@ -120,10 +125,10 @@ uint8_t lova_test_relation(uint64_t n, uint64_t m, uint64_t t, uint64_t b, uint6
                            const uint64_t *a, size_t a_len, const uint64_t *t_in, size_t t_in_len,
                            const int64_t *d_in, size_t d_in_len, const int64_t *s, size_t s_len);
 
-/* T and D of a fresh witness. Refusals 1 to 6, 7, 8. */
+/* T and D of a fresh witness, and one leaf. Refusals 1 to 6, 7, 8. */
 uint8_t lova_commit_fresh(uint64_t n, uint64_t m, uint64_t t, uint64_t b, uint64_t bound,
                           const uint64_t *a, size_t a_len, const int64_t *vector, size_t vector_len,
-                          uint64_t *t_out, size_t t_out_len, int64_t *d_out, size_t d_out_len);
+                          uint64_t *t_out, size_t t_out_len, int64_t *d_out, size_t d_out_len, uint32_t *leaves_out);
 
 /* V, T~, D~ and S~ of the witness S1 and a fresh one; its digits are the last k columns of S~. Refusals 1 to 6, 7, 8. */
 uint8_t lova_message_fresh(uint64_t n, uint64_t m, uint64_t t, uint64_t b, uint64_t bound,
@@ -137,20 +142,20 @@ uint8_t lova_fold_witness_fresh(uint64_t n, uint64_t m, uint64_t t, uint64_t b, 
                                 const int64_t *ss, size_t ss_len, const uint8_t *c, size_t c_len,
                                 int64_t *s, size_t s_len);
 
-/* The joined T, n by 2t, and D, 2t by 2t, of an instance and a fresh one. Refusals 1 to 6, 7. */
+/* The joined T, n by 2t, D, 2t by 2t, and leaves1 + leaves2 of an instance and a fresh one. Refusals 1 to 6, 7, 15. */
 uint8_t lova_join_fresh(uint64_t n, uint64_t m, uint64_t t, uint64_t b, uint64_t bound,
-                        const uint64_t *t1, size_t t1_len, const int64_t *d1, size_t d1_len,
-                        const uint64_t *t2, size_t t2_len, const int64_t *d2, size_t d2_len,
+                        const uint64_t *t1, size_t t1_len, const int64_t *d1, size_t d1_len, uint32_t leaves1,
+                        const uint64_t *t2, size_t t2_len, const int64_t *d2, size_t d2_len, uint32_t leaves2,
                         const int64_t *v, size_t v_len,
-                        uint64_t *t_out, size_t t_out_len, int64_t *d_out, size_t d_out_len);
+                        uint64_t *t_out, size_t t_out_len, int64_t *d_out, size_t d_out_len, uint32_t *leaves_out);
 
-/* The verdict on a fold with a fresh instance, as lova_verify gives it; C is N by t. Refusals 1 to 6, 7, 9, 10. */
+/* The verdict on a fold with a fresh instance, as lova_verify gives it; C is N by t. Refusals 1 to 6, 7, 15, 9, 10. */
 uint8_t lova_verify_fresh(uint64_t n, uint64_t m, uint64_t t, uint64_t b, uint64_t bound,
-                          const uint64_t *t1, size_t t1_len, const int64_t *d1, size_t d1_len,
-                          const uint64_t *t2, size_t t2_len, const int64_t *d2, size_t d2_len,
+                          const uint64_t *t1, size_t t1_len, const int64_t *d1, size_t d1_len, uint32_t leaves1,
+                          const uint64_t *t2, size_t t2_len, const int64_t *d2, size_t d2_len, uint32_t leaves2,
                           const int64_t *v, size_t v_len, const uint64_t *tt, size_t tt_len,
                           const int64_t *dd, size_t dd_len, const uint8_t *c, size_t c_len,
-                          uint64_t *t_out, size_t t_out_len, int64_t *d_out, size_t d_out_len);
+                          uint64_t *t_out, size_t t_out_len, int64_t *d_out, size_t d_out_len, uint32_t *leaves_out);
 
 /* The setting of five numbers: writes k, N and the 33 powers of b (b^p for p < k, then 0), 35 places. Refusals 1 to 6, 7. */
 uint8_t lova_setting(uint64_t n, uint64_t m, uint64_t t, uint64_t b, uint64_t bound, uint64_t *out, size_t out_len);

@@ -1,5 +1,6 @@
 //! What the operations answer, and the codes that stand for it.
 
+use crate::instance::Instance;
 use std::error::Error;
 use std::fmt;
 
@@ -34,10 +35,12 @@ pub enum Refusal {
     Digit = 11,
     /// A number outside 1..4 was asked of the house list.
     Unlisted = 12,
+    /// An instance has 0 leaves, or both have more than 2^32 − 1 together.
+    Leaves = 15,
 }
 
 /// All refusals, in the order of their numbers.
-const REFUSALS: [Refusal; 12] = [
+const REFUSALS: [Refusal; 13] = [
     Refusal::Shape,
     Refusal::Base,
     Refusal::Bound,
@@ -50,6 +53,7 @@ const REFUSALS: [Refusal; 12] = [
     Refusal::DigitProduct,
     Refusal::Digit,
     Refusal::Unlisted,
+    Refusal::Leaves,
 ];
 
 impl Refusal {
@@ -73,6 +77,7 @@ impl Refusal {
             Refusal::DigitProduct => "an entry of D~ is above H in size",
             Refusal::Digit => "an entry of S~ is above h in size",
             Refusal::Unlisted => "the house list has the numbers 1 to 4",
+            Refusal::Leaves => "an instance has 0 leaves, or both have more than 2^32 − 1 together",
         }
     }
 }
@@ -92,9 +97,10 @@ pub type Answer = Result<(), Refusal>;
 #[derive(Clone, Copy, Debug, PartialEq, Eq, Hash)]
 #[must_use]
 #[non_exhaustive]
-pub enum Verdict {
-    /// No diagonal entry of D1 or D2 is above B, and both equations hold; T' and D' were written.
-    Yes,
+pub enum Verdict<'a> {
+    /// No diagonal entry of D1 or D2 is above B, and both equations hold: the folded instance, whose T' and D' were
+    /// written.
+    Yes(Instance<'a>),
     /// A diagonal entry of D1 or D2 is above B, so that instance has no witness within B.
     Long,
     /// No diagonal entry is above B, and the first equation, of the products, fails.
@@ -124,8 +130,8 @@ pub enum Membership {
 ///
 /// Where the library answers a code that it does not have.
 fn refusal(code: u8) -> Refusal {
-    let place = usize::from(code).wrapping_sub(1);
-    *REFUSALS.get(place).unwrap_or_else(|| panic!("the static library answered {code}, which is none of its codes"))
+    let refused = REFUSALS.into_iter().find(|refused| refused.number() == code);
+    refused.unwrap_or_else(|| panic!("the static library answered {code}, which is none of its codes"))
 }
 
 /// The answer with this code.
@@ -136,10 +142,10 @@ pub(crate) fn answer(code: u8) -> Answer {
     }
 }
 
-/// The verdict with this code.
-pub(crate) fn verdict(code: u8) -> Result<Verdict, Refusal> {
+/// The verdict with this code; a yes hands out the folded instance.
+pub(crate) fn verdict(code: u8, folded: Instance<'_>) -> Result<Verdict<'_>, Refusal> {
     match code {
-        0 => Ok(Verdict::Yes),
+        0 => Ok(Verdict::Yes(folded)),
         100 => Ok(Verdict::Norm),
         101 => Ok(Verdict::Commitment),
         102 => Ok(Verdict::Long),
@@ -162,10 +168,16 @@ pub(crate) fn membership(code: u8) -> Result<Membership, Refusal> {
 mod tests {
     use super::*;
 
+    /// The verdict with this code.
+    fn verdict(code: u8) -> Result<Verdict<'static>, Refusal> {
+        super::verdict(code, Instance { t: &[], d: &[], leaves: 2 })
+    }
+
     #[test]
     fn every_refusal_has_its_own_code() {
-        for (place, refused) in REFUSALS.into_iter().enumerate() {
-            assert_eq!(usize::from(refused.number()), place + 1);
+        let numbers: Vec<u8> = REFUSALS.into_iter().map(Refusal::number).collect();
+        assert_eq!(numbers, [1, 2, 3, 4, 5, 6, 7, 8, 9, 10, 11, 12, 15]);
+        for refused in REFUSALS {
             assert_eq!(answer(refused.number()), Err(refused));
             assert_eq!(verdict(refused.number()), Err(refused));
             assert_eq!(membership(refused.number()), Err(refused));
@@ -203,7 +215,7 @@ mod tests {
 
     #[test]
     fn codes_without_a_meaning_are_not_taken_for_one() {
-        for code in [13, 99, 104, 255] {
+        for code in [13, 14, 16, 99, 104, 255] {
             assert!(fails(answer, code) && fails(verdict, code) && fails(membership, code));
         }
         // A word of another operation is none either.

@@ -1,19 +1,25 @@
 //! The functions of the static library as C sees them, and how they are called.
 //!
-//! The five numbers of a setting come first; each slice is a pointer and a length. Every
-//! function answers 0, a refusal from 1 to 12, or one of the words from 100 on.
+//! The five numbers of a setting come first; each slice is a pointer and a length. The number of leaves under an instance
+//! stands after its slices: as a number where the instance is read, as a pointer where it is written. Every function
+//! answers 0, a refusal (1 to 12, or 15), or one of the words from 100 on.
 
-/// The code of a C function for the five numbers of a setting, the slices that it reads and those that it writes.
+/// The code of a C function for the five numbers of a setting, the slices that it reads and those that it writes. What
+/// follows the slices of an instance is its number of leaves, or a reference to it.
 macro_rules! call {
-    ($function:path, $five:expr, [$($read:ident),*], [$($written:ident),*]) => {{
+    (
+        $function:path, $five:expr,
+        $([$($read:expr),*] $($leaves:expr)?),* => [$($written:expr),*] $($leaves_out:expr)?
+    ) => {{
         let [n, m, t, b, bound] = $five;
         // SAFETY: each pointer has the length of its slice, and a slice is lent for the call alone,
-        // an output exclusively.
+        // an output exclusively; so is the number of leaves that is written.
         unsafe {
             $function(
                 n, m, t, b, bound,
-                $($read.as_ptr(), $read.len(),)*
+                $($($read.as_ptr(), $read.len(),)* $($leaves,)?)*
                 $($written.as_mut_ptr(), $written.len(),)*
+                $($leaves_out,)?
             )
         }
     }};
@@ -24,7 +30,7 @@ extern "C" {
     pub fn lova_commit(
         n: u64, m: u64, t: u64, b: u64, bound: u64,
         a: *const u64, a_len: usize, s: *const i64, s_len: usize,
-        t_out: *mut u64, t_out_len: usize, d_out: *mut i64, d_out_len: usize,
+        t_out: *mut u64, t_out_len: usize, d_out: *mut i64, d_out_len: usize, leaves_out: *mut u32,
     ) -> u8;
 
     pub fn lova_message(
@@ -41,23 +47,23 @@ extern "C" {
 
     pub fn lova_join(
         n: u64, m: u64, t: u64, b: u64, bound: u64,
-        t1: *const u64, t1_len: usize, d1: *const i64, d1_len: usize,
-        t2: *const u64, t2_len: usize, d2: *const i64, d2_len: usize, v: *const i64, v_len: usize,
-        t_out: *mut u64, t_out_len: usize, d_out: *mut i64, d_out_len: usize,
+        t1: *const u64, t1_len: usize, d1: *const i64, d1_len: usize, leaves1: u32,
+        t2: *const u64, t2_len: usize, d2: *const i64, d2_len: usize, leaves2: u32, v: *const i64, v_len: usize,
+        t_out: *mut u64, t_out_len: usize, d_out: *mut i64, d_out_len: usize, leaves_out: *mut u32,
     ) -> u8;
 
     pub fn lova_verify(
         n: u64, m: u64, t: u64, b: u64, bound: u64,
-        t1: *const u64, t1_len: usize, d1: *const i64, d1_len: usize,
-        t2: *const u64, t2_len: usize, d2: *const i64, d2_len: usize, v: *const i64, v_len: usize,
+        t1: *const u64, t1_len: usize, d1: *const i64, d1_len: usize, leaves1: u32,
+        t2: *const u64, t2_len: usize, d2: *const i64, d2_len: usize, leaves2: u32, v: *const i64, v_len: usize,
         tt: *const u64, tt_len: usize, dd: *const i64, dd_len: usize, c: *const u8, c_len: usize,
-        t_out: *mut u64, t_out_len: usize, d_out: *mut i64, d_out_len: usize,
+        t_out: *mut u64, t_out_len: usize, d_out: *mut i64, d_out_len: usize, leaves_out: *mut u32,
     ) -> u8;
 
     pub fn lova_commit_fresh(
         n: u64, m: u64, t: u64, b: u64, bound: u64,
         a: *const u64, a_len: usize, vector: *const i64, vector_len: usize,
-        t_out: *mut u64, t_out_len: usize, d_out: *mut i64, d_out_len: usize,
+        t_out: *mut u64, t_out_len: usize, d_out: *mut i64, d_out_len: usize, leaves_out: *mut u32,
     ) -> u8;
 
     pub fn lova_message_fresh(
@@ -74,17 +80,17 @@ extern "C" {
 
     pub fn lova_join_fresh(
         n: u64, m: u64, t: u64, b: u64, bound: u64,
-        t1: *const u64, t1_len: usize, d1: *const i64, d1_len: usize,
-        t2: *const u64, t2_len: usize, d2: *const i64, d2_len: usize, v: *const i64, v_len: usize,
-        t_out: *mut u64, t_out_len: usize, d_out: *mut i64, d_out_len: usize,
+        t1: *const u64, t1_len: usize, d1: *const i64, d1_len: usize, leaves1: u32,
+        t2: *const u64, t2_len: usize, d2: *const i64, d2_len: usize, leaves2: u32, v: *const i64, v_len: usize,
+        t_out: *mut u64, t_out_len: usize, d_out: *mut i64, d_out_len: usize, leaves_out: *mut u32,
     ) -> u8;
 
     pub fn lova_verify_fresh(
         n: u64, m: u64, t: u64, b: u64, bound: u64,
-        t1: *const u64, t1_len: usize, d1: *const i64, d1_len: usize,
-        t2: *const u64, t2_len: usize, d2: *const i64, d2_len: usize, v: *const i64, v_len: usize,
+        t1: *const u64, t1_len: usize, d1: *const i64, d1_len: usize, leaves1: u32,
+        t2: *const u64, t2_len: usize, d2: *const i64, d2_len: usize, leaves2: u32, v: *const i64, v_len: usize,
         tt: *const u64, tt_len: usize, dd: *const i64, dd_len: usize, c: *const u8, c_len: usize,
-        t_out: *mut u64, t_out_len: usize, d_out: *mut i64, d_out_len: usize,
+        t_out: *mut u64, t_out_len: usize, d_out: *mut i64, d_out_len: usize, leaves_out: *mut u32,
     ) -> u8;
 
     pub fn lova_test_relation(

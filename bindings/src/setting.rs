@@ -71,7 +71,7 @@ impl Setting {
 
 /// Write a setting's record, k, N and the powers of b, to a slice of [`RECORD`] places: 1 to 6, then 7.
 pub fn write_record(setting: Setting, record: &mut [u64]) -> Answer {
-    answer(call!(raw::lova_setting, setting.five(), [], [record]))
+    answer(call!(raw::lova_setting, setting.five(), [] => [record]))
 }
 
 /// Write n, m, t, b and B of a row of the house list to a slice of 5 places: 12, then 7.

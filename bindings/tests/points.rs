@@ -1,9 +1,19 @@
 //! The specification's points, through the bindings.
 
-use lova::{triangle, Membership, Record, Refusal, Setting, Verdict, RECORD};
+use lova::{triangle, Instance, Membership, Record, Refusal, Setting, Verdict, RECORD};
 
 const ONE: Setting = Setting::unchecked(1, 1, 1, 2, 100);
 const C: [u8; 10] = [1, 1, 1, 0, 0, 2, 0, 2, 0, 0];
+
+/// An instance with one leaf.
+fn leaf<'a>(t: &'a [u64], d: &'a [i64]) -> Instance<'a> {
+    Instance { t, d, leaves: 1 }
+}
+
+/// The yes to a fold of two leaves.
+fn yes<'a>(t: &'a [u64], d: &'a [i64]) -> Result<Verdict<'a>, Refusal> {
+    Ok(Verdict::Yes(Instance { t, d, leaves: 2 }))
+}
 
 /// V, T~, D~ and S~ of the printed fold: 7 and −5 with A = 3.
 fn printed_message() -> ([i64; 1], [u64; 10], [i64; triangle(10)], [i64; 10]) {
@@ -12,12 +22,21 @@ fn printed_message() -> ([i64; 1], [u64; 10], [i64; triangle(10)], [i64; 10]) {
     (v, tt, dd, ss)
 }
 
-/// The verdict on the printed fold with another D~ and C, and T' and D' afterwards; both held 8 before.
-fn judged(dd: &[i64], tt: &[u64], c: &[u8]) -> (Result<Verdict, Refusal>, u64, i64) {
+/// Ask for a verdict on the printed fold with these counts and another T~, D~ and C. T' and D' hold 8 before, and without
+/// a yes afterwards too.
+#[track_caller]
+fn assert_counted(leaves: [u32; 2], tt: &[u64], dd: &[i64], c: &[u8], expected: Result<Verdict, Refusal>) {
     let (mut t, mut d) = ([8], [8]);
-    let fifteen = 15u64.wrapping_neg();
-    let verdict = lova::verify(ONE, &[21], &[49], &[fifteen], &[25], &[-35], tt, dd, c, &mut t, &mut d);
-    (verdict, t[0], d[0])
+    let one = Instance { t: &[21], d: &[49], leaves: leaves[0] };
+    let two = Instance { t: &[15u64.wrapping_neg()], d: &[25], leaves: leaves[1] };
+    assert_eq!(lova::verify(ONE, one, two, &[-35], tt, dd, c, &mut t, &mut d), expected);
+    assert!(matches!(expected, Ok(Verdict::Yes(_))) || (t, d) == ([8], [8]));
+}
+
+/// The same, with one leaf under each instance.
+#[track_caller]
+fn assert_judged(tt: &[u64], dd: &[i64], c: &[u8], expected: Result<Verdict, Refusal>) {
+    assert_counted([1, 1], tt, dd, c, expected);
 }
 
 #[test]
@@ -42,8 +61,7 @@ fn commitments() {
         assert_eq!(lova::commit(ONE, &[3], &[s], &mut t, &mut d), Err(Refusal::LongColumn));
         assert_eq!((t, d), ([8], [8]));
     }
-    assert_eq!(lova::commit(ONE, &[1 << 63], &[2], &mut t, &mut d), Ok(()));
-    assert_eq!((t, d), ([0], [4]));
+    assert_eq!(lova::commit(ONE, &[1 << 63], &[2], &mut t, &mut d), Ok(leaf(&[0], &[4])));
     assert_eq!(lova::commit(ONE, &[], &[2], &mut t, &mut d), Err(Refusal::Length));
 }
 
@@ -56,8 +74,8 @@ fn the_printed_fold() {
             assert_eq!(dd[triangle(i) + j], ss[i] * ss[j]);
         }
     }
-    assert_eq!(judged(&dd, &tt, &C), (Ok(Verdict::Yes), 15, 25));
-    assert_eq!(judged(&dd, &tt, &[0; 10]), (Ok(Verdict::Yes), 0, 0));
+    assert_judged(&tt, &dd, &C, yes(&[15], &[25]));
+    assert_judged(&tt, &dd, &[0; 10], yes(&[0], &[0]));
     let mut s = [8];
     assert_eq!(lova::fold_witness(ONE, &ss, &C, &mut s), Ok(()));
     assert_eq!(s, [5]);
@@ -71,13 +89,45 @@ fn other_verdicts_write_nothing() {
     let (mut products, mut commitments, mut c) = (dd, tt, C);
     products[54] = 1;
     commitments[9] = 1;
-    assert_eq!(judged(&products, &commitments, &C), (Ok(Verdict::Norm), 8, 8));
-    assert_eq!(judged(&dd, &commitments, &C), (Ok(Verdict::Commitment), 8, 8));
+    assert_judged(&commitments, &products, &C, Ok(Verdict::Norm));
+    assert_judged(&commitments, &dd, &C, Ok(Verdict::Commitment));
     products[54] = 2;
-    assert_eq!(judged(&products, &tt, &C), (Err(Refusal::DigitProduct), 8, 8));
+    assert_judged(&tt, &products, &C, Err(Refusal::DigitProduct));
     c[9] = 3;
-    assert_eq!(judged(&products, &tt, &c), (Err(Refusal::Challenge), 8, 8));
-    assert_eq!(judged(&products, &tt, &c[1..]), (Err(Refusal::Length), 8, 8));
+    assert_judged(&tt, &products, &c, Err(Refusal::Challenge));
+    // A refused count comes before these, a wrong length before it.
+    assert_counted([0, 1], &tt, &products, &c, Err(Refusal::Leaves));
+    assert_counted([0, 1], &tt, &products, &c[1..], Err(Refusal::Length));
+}
+
+/// Two counts with their sum, or nothing where they are refused.
+const COUNTS: [([u32; 2], Option<u32>); 9] = [
+    ([3, 4], Some(7)),
+    ([1, u32::MAX - 1], Some(u32::MAX)),
+    ([1 << 31, (1 << 31) - 1], Some(u32::MAX)),
+    ([0, 1], None),
+    ([1, 0], None),
+    ([1, u32::MAX], None),
+    ([u32::MAX, 1], None),
+    ([1 << 31, 1 << 31], None),
+    ([u32::MAX, u32::MAX], None),
+];
+
+#[test]
+fn leaves_are_summed_or_refused() {
+    let (_, tt, dd, _) = printed_message();
+    let mut commitments = tt;
+    commitments[9] = 1;
+    for (counts, sum) in COUNTS {
+        let [one, two] = counts.map(|leaves| Instance { t: &[1], d: &[2], leaves });
+        let (mut t, mut d) = ([8; 2], [8; 4]);
+        let joined = sum.ok_or(Refusal::Leaves).map(|leaves| Instance { t: &[1, 1], d: &[2, 5, 5, 2], leaves });
+        assert_eq!(lova::join(ONE, one, two, &[5], &mut t, &mut d), joined);
+        assert_eq!((t, d) == ([8; 2], [8; 4]), sum.is_none());
+        let folded = sum.ok_or(Refusal::Leaves).map(|leaves| Verdict::Yes(Instance { t: &[15], d: &[25], leaves }));
+        assert_counted(counts, &tt, &dd, &C, folded);
+        assert_counted(counts, &commitments, &dd, &C, sum.ok_or(Refusal::Leaves).map(|_| Verdict::Commitment));
+    }
 }
 
 #[test]
@@ -85,8 +135,8 @@ fn other_lengths_of_a_triangle_are_refused() {
     let (_, tt, dd, _) = printed_message();
     let entry = |i: usize, j: usize| dd[triangle(i.max(j)) + i.min(j)];
     let square: Vec<i64> = (0..100).map(|at| entry(at / 10, at % 10)).collect();
-    assert_eq!(judged(&square, &tt, &C), (Err(Refusal::Length), 8, 8));
-    assert_eq!(judged(&dd[..54], &tt, &C), (Err(Refusal::Length), 8, 8));
+    assert_judged(&tt, &square, &C, Err(Refusal::Length));
+    assert_judged(&tt, &dd[..54], &C, Err(Refusal::Length));
     for length in [54, 56, 100] {
         let (mut v, mut tt, mut long, mut ss) = ([8], [8; 10], vec![8; length], [8; 10]);
         let answer = lova::message(ONE, &[3], &[7], &[-5], &mut v, &mut tt, &mut long, &mut ss);
@@ -95,33 +145,34 @@ fn other_lengths_of_a_triangle_are_refused() {
     }
 }
 
-/// The verdict under a bound, and T' and D' afterwards, on a fold with A = 3 in which 11 is one witness. Its message is
-/// made with B = 121, which takes 11 and has the k and N of Setting 1.
-fn with_eleven(s1: i64, s2: i64, bound: u64) -> (Result<Verdict, Refusal>, u64, i64) {
+/// Ask for a verdict under a bound on a fold with A = 3 in which 11 is one witness. Its message is made with B = 121,
+/// which takes 11 and has the k and N of Setting 1.
+#[track_caller]
+fn assert_with_eleven(s1: i64, s2: i64, bound: u64, expected: Result<Verdict, Refusal>) {
     let maker = Setting::new(1, 1, 1, 2, 121).unwrap();
     let (mut v, mut tt, mut dd, mut ss) = ([0], [0; 10], [0; triangle(10)], [0; 10]);
     lova::message(maker, &[3], &[s1], &[s2], &mut v, &mut tt, &mut dd, &mut ss).unwrap();
     let instance = |s: i64| ([(3 * s) as u64], [s * s]);
     let ((t1, d1), (t2, d2)) = (instance(s1), instance(s2));
     let (setting, mut t, mut d) = (Setting::new(1, 1, 1, 2, bound).unwrap(), [8], [8]);
-    let verdict = lova::verify(setting, &t1, &d1, &t2, &d2, &v, &tt, &dd, &C, &mut t, &mut d);
-    (verdict, t[0], d[0])
+    assert_eq!(lova::verify(setting, leaf(&t1, &d1), leaf(&t2, &d2), &v, &tt, &dd, &C, &mut t, &mut d), expected);
+    assert!(expected != Ok(Verdict::Long) || (t, d) == ([8], [8]));
 }
 
 #[test]
 fn a_long_start_does_not_pass() {
-    for (s1, s2) in [(11, -5), (7, 11)] {
-        assert_eq!(with_eleven(s1, s2, 100), (Ok(Verdict::Long), 8, 8));
-        assert_eq!(with_eleven(s1, s2, 120), (Ok(Verdict::Long), 8, 8));
-        assert_eq!(with_eleven(s1, s2, 121).0, Ok(Verdict::Yes));
+    for (s1, s2, t, d) in [(11, -5, 12, 16), (7, 11, 6, 4)] {
+        assert_with_eleven(s1, s2, 100, Ok(Verdict::Long));
+        assert_with_eleven(s1, s2, 120, Ok(Verdict::Long));
+        assert_with_eleven(s1, s2, 121, yes(&[t], &[d]));
     }
 }
 
 #[test]
 fn joined_and_related() {
     let (mut t, mut d) = ([8; 2], [8; 4]);
-    assert_eq!(lova::join(ONE, &[1], &[2], &[3], &[4], &[5], &mut t, &mut d), Ok(()));
-    assert_eq!((t, d), ([1, 3], [2, 5, 5, 4]));
+    let joined = lova::join(ONE, leaf(&[1], &[2]), leaf(&[3], &[4]), &[5], &mut t, &mut d);
+    assert_eq!(joined, Ok(Instance { t: &[1, 3], d: &[2, 5, 5, 4], leaves: 2 }));
     let related = |t: u64, d: i64, s: i64| lova::test_relation(ONE, &[3], &[t], &[d], &[s]);
     assert_eq!(related(22, 49, 7), Ok(Membership::Commitment));
     assert_eq!(related(22, 50, 7), Ok(Membership::Products));
@@ -142,19 +193,19 @@ fn fresh_message(held: i64) -> ([i64; 2], [u64; 9], [i64; triangle(9)], [i64; 9]
 #[test]
 fn a_fresh_fold() {
     let (mut t1, mut d1, mut t2, mut d2) = ([8; 2], [8; 4], [8], [8]);
-    assert_eq!(lova::commit(TWO, &[3], &[7, -5], &mut t1, &mut d1), Ok(()));
-    assert_eq!(lova::commit_fresh(TWO, &[3], &[4], &mut t2, &mut d2), Ok(()));
-    assert_eq!((t2, d2), ([12], [16]));
+    let one = lova::commit(TWO, &[3], &[7, -5], &mut t1, &mut d1).unwrap();
+    let two = lova::commit_fresh(TWO, &[3], &[4], &mut t2, &mut d2).unwrap();
+    assert_eq!(two, leaf(&[12], &[16]));
     let (mut v, mut tt, mut dd, mut ss) = fresh_message(8);
     assert_eq!(lova::message_fresh(TWO, &[3], &[7, -5], &[4], &mut v, &mut tt, &mut dd, &mut ss), Ok(()));
     assert_eq!((v, ss), ([28, -20], [2, 1, 0, 0, -1, 0, -1, 1, 0]));
     let (mut t, mut d) = ([8; 4], [8; 16]);
-    assert_eq!(lova::join_fresh(TWO, &t1, &d1, &t2, &d2, &v, &mut t, &mut d), Ok(()));
+    assert_eq!(lova::join_fresh(TWO, one, two, &v, &mut t, &mut d).map(|joined| joined.leaves), Ok(2));
     assert_eq!(t, [21, 15u64.wrapping_neg(), 12, 12]);
     assert_eq!(d, [49, -35, 28, 28, -35, 25, -20, -20, 28, -20, 16, 16, 28, -20, 16, 16]);
     let (mut t, mut d, mut s) = ([8; 2], [8; 4], [8; 2]);
-    let verdict = lova::verify_fresh(TWO, &t1, &d1, &t2, &d2, &v, &tt, &dd, &FRESH_C, &mut t, &mut d);
-    assert_eq!((verdict, t, d), (Ok(Verdict::Yes), [3, 9], [1, 3, 3, 9]));
+    let verdict = lova::verify_fresh(TWO, one, two, &v, &tt, &dd, &FRESH_C, &mut t, &mut d);
+    assert_eq!(verdict, yes(&[3, 9], &[1, 3, 3, 9]));
     assert_eq!(lova::fold_witness_fresh(TWO, &ss, &FRESH_C, &mut s), Ok(()));
     assert_eq!(s, [1, 3]);
     assert_eq!(lova::test_relation(TWO, &[3], &t, &d, &s), Ok(Membership::Member));
@@ -170,8 +221,10 @@ fn fresh_calls_are_refused() {
     let answer = lova::message_fresh(TWO, &[3], &[0, 0], &[25], &mut v, &mut tt, &mut dd, &mut ss);
     assert_eq!((answer, (v, tt, dd, ss)), (Err(Refusal::LongColumn), fresh_message(8)));
     let (mut t, mut d) = ([8; 4], [8; 16]);
-    let joined = lova::join_fresh(TWO, &[1; 2], &[2; 4], &[3; 2], &[4], &[5; 2], &mut t, &mut d);
-    assert_eq!((joined, t, d), (Err(Refusal::Length), [8; 4], [8; 16]));
+    let (none, two) = (Instance { t: &[1; 2], d: &[2; 4], leaves: 0 }, leaf(&[3], &[4]));
+    assert_eq!(lova::join_fresh(TWO, none, leaf(&[3; 2], &[4]), &[5; 2], &mut t, &mut d), Err(Refusal::Length));
+    assert_eq!(lova::join_fresh(TWO, none, two, &[5; 2], &mut t, &mut d), Err(Refusal::Leaves));
+    assert_eq!((t, d), ([8; 4], [8; 16]));
     let mut s = [8; 2];
     assert_eq!(lova::fold_witness_fresh(TWO, &[3; 9], &FRESH_C, &mut s), Err(Refusal::Digit));
     assert_eq!(lova::fold_witness_fresh(TWO, &[3; 9], &[3; 24], &mut s), Err(Refusal::Challenge));
@@ -179,40 +232,45 @@ fn fresh_calls_are_refused() {
     assert_eq!(s, [8; 2]);
 }
 
-/// The verdict on a fresh fold of zeros with another D2, D~ and C, and T' and D' afterwards; both held 8 before.
-fn judged_fresh(d2: i64, dd: i64, c: u8) -> (Result<Verdict, Refusal>, [u64; 2], [i64; 4]) {
+/// Ask for a verdict on a fresh fold of zeros with another count, D2, D~ and C. T' and D' hold 8 before, and without a yes
+/// afterwards too.
+#[track_caller]
+fn assert_judged_fresh(leaves: u32, d2: i64, dd: i64, c: u8, expected: Result<Verdict, Refusal>) {
     let (mut t, mut d) = ([8; 2], [8; 4]);
+    let (one, two) = (leaf(&[0; 2], &[0; 4]), Instance { t: &[0], d: &[d2], leaves });
     let (zeros, dd, c) = ([0; 9], [dd; triangle(9)], [c; 24]);
-    let verdict = lova::verify_fresh(TWO, &[0; 2], &[0; 4], &[0], &[d2], &[0; 2], &zeros, &dd, &c, &mut t, &mut d);
-    (verdict, t, d)
+    assert_eq!(lova::verify_fresh(TWO, one, two, &[0; 2], &zeros, &dd, &c, &mut t, &mut d), expected);
+    assert!(matches!(expected, Ok(Verdict::Yes(_))) || (t, d) == ([8; 2], [8; 4]));
 }
 
 #[test]
 fn fresh_verdicts_in_order() {
-    assert_eq!(judged_fresh(0, 0, 1), (Ok(Verdict::Yes), [0; 2], [0; 4]));
-    let (t, d) = ([8; 2], [8; 4]);
-    assert_eq!(judged_fresh(576, 0, 1), (Ok(Verdict::Norm), t, d));
-    assert_eq!(judged_fresh(577, 0, 1), (Ok(Verdict::Long), t, d));
-    assert_eq!(judged_fresh(577, 5, 1), (Err(Refusal::DigitProduct), t, d));
-    assert_eq!(judged_fresh(577, -5, 3), (Err(Refusal::Challenge), t, d));
+    assert_judged_fresh(1, 0, 0, 1, yes(&[0; 2], &[0; 4]));
+    assert_judged_fresh(1, 576, 0, 1, Ok(Verdict::Norm));
+    assert_judged_fresh(1, 577, 0, 1, Ok(Verdict::Long));
+    assert_judged_fresh(1, 577, 5, 1, Err(Refusal::DigitProduct));
+    assert_judged_fresh(1, 577, -5, 3, Err(Refusal::Challenge));
+    assert_judged_fresh(0, 577, -5, 3, Err(Refusal::Leaves));
+    assert_judged_fresh(u32::MAX, 0, 0, 1, Err(Refusal::Leaves));
 }
 
-/// The verdict on a general fold at t = 2 with another D1 and D2; both witnesses are 1 1.
-fn with_products(d1: [i64; 4], d2: [i64; 4]) -> Result<Verdict, Refusal> {
+/// Ask for a verdict on a general fold at t = 2 with another D1 and D2; both witnesses are 1 1.
+#[track_caller]
+fn assert_with_products(d1: [i64; 4], d2: [i64; 4], expected: Result<Verdict, Refusal>) {
     let (mut v, mut tt, mut dd, mut ss) = ([0; 4], [0; 12], [0; triangle(12)], [0; 12]);
     lova::message(TWO, &[3], &[1, 1], &[1, 1], &mut v, &mut tt, &mut dd, &mut ss).unwrap();
     let (mut t, mut d) = ([8; 2], [8; 4]);
-    let verdict = lova::verify(TWO, &[3, 3], &d1, &[3, 3], &d2, &v, &tt, &dd, &FRESH_C, &mut t, &mut d);
-    assert_eq!((t, d) == ([8; 2], [8; 4]), verdict != Ok(Verdict::Yes));
-    verdict
+    let (one, two) = (leaf(&[3, 3], &d1), leaf(&[3, 3], &d2));
+    assert_eq!(lova::verify(TWO, one, two, &v, &tt, &dd, &FRESH_C, &mut t, &mut d), expected);
+    assert!(matches!(expected, Ok(Verdict::Yes(_))) || (t, d) == ([8; 2], [8; 4]));
 }
 
 #[test]
 fn an_unsymmetric_instance_is_norm() {
-    assert_eq!(with_products([1; 4], [1; 4]), Ok(Verdict::Yes));
+    assert_with_products([1; 4], [1; 4], yes(&[9, 3u64.wrapping_neg()], &[9, -3, -3, 1]));
     for d in [[1, 2, 1, 1], [1, 1, 2, 1], [1, 0, 1, 1], [1, 1, 0, 1]] {
-        assert_eq!(with_products(d, [1; 4]), Ok(Verdict::Norm));
-        assert_eq!(with_products([1; 4], d), Ok(Verdict::Norm));
-        assert_eq!(with_products(d, [577, 1, 1, 1]), Ok(Verdict::Long));
+        assert_with_products(d, [1; 4], Ok(Verdict::Norm));
+        assert_with_products([1; 4], d, Ok(Verdict::Norm));
+        assert_with_products(d, [577, 1, 1, 1], Ok(Verdict::Long));
     }
 }

@@ -2,8 +2,7 @@
 
 use crate::library;
 use crate::seed::seed;
-use lova::{Membership, Refusal, Setting, Verdict};
-use reference::operations::{self, Answer, Profile};
+use reference::operations::{self, Answer, Instance, Profile};
 use reference::settings::Parameters;
 use std::fmt::Display;
 use Matrix::*;
@@ -81,6 +80,15 @@ impl Operation {
             | Operation::Join(profile)
             | Operation::Verify(profile) => profile,
             Operation::TestRelation => General,
+        }
+    }
+
+    /// The answer that code 0 stands for.
+    fn taken(self) -> Answer {
+        match self {
+            Operation::Verify(_) => Answer::Yes,
+            Operation::TestRelation => Answer::Member,
+            _ => Answer::Done,
         }
     }
 
@@ -187,13 +195,25 @@ fn first_difference<E: PartialEq + Display>(own: &[E], other: &[E]) -> String {
     }
 }
 
-/// A call: what is lent to it; the outputs hold noise and have guards around them.
+/// The place of a leaf count, with guards around it.
+pub type Count = [u32; 2 * GUARD + 1];
+
+/// What a call may write.
+#[derive(Clone)]
+pub struct Outputs {
+    pub slices: Vec<Slice>,
+    pub leaves: Count,
+}
+
+/// A call: what is lent to it; the outputs hold noise and have guards around them. Join and verdict alone read leaf
+/// counts.
 #[derive(Clone)]
 pub struct Call {
     pub operation: Operation,
     pub p: Parameters,
     pub read: Vec<Slice>,
-    pub written: Vec<Slice>,
+    pub leaves: [u32; 2],
+    pub written: Outputs,
 }
 
 /// The part of an output that is lent.
@@ -202,79 +222,69 @@ fn lent<E>(guarded: &mut [E]) -> &mut [E] {
     &mut guarded[GUARD..end]
 }
 
-/// A refusal of the bindings as an answer of the reference.
-fn refused(refusal: Refusal) -> Answer {
-    Answer::Refused(refusal.number().into())
-}
-
-/// An answer of the bindings as one of the reference.
-fn answered(answer: lova::Answer) -> Answer {
-    answer.map_or_else(refused, |()| Answer::Done)
-}
-
-/// A verdict of the bindings as an answer of the reference.
-fn judged(verdict: Result<Verdict, Refusal>) -> Answer {
-    let word = |verdict| match verdict {
-        Verdict::Yes => Answer::Yes,
-        Verdict::Long => Answer::Long,
-        Verdict::Norm => Answer::Norm,
-        Verdict::Commitment => Answer::Commitment,
-        other => unreachable!("the reference has no verdict {other:?}"),
-    };
-    verdict.map_or_else(refused, word)
-}
-
-/// A membership of the bindings as an answer of the reference.
-fn related(membership: Result<Membership, Refusal>) -> Answer {
-    let word = |membership| match membership {
-        Membership::Member => Answer::Member,
-        Membership::Long => Answer::Long,
-        Membership::Products => Answer::Products,
-        Membership::Commitment => Answer::Commitment,
-        other => unreachable!("the reference has no membership {other:?}"),
-    };
-    membership.map_or_else(refused, word)
+/// The answer with this code; 0 is the one given.
+fn answer(code: u8, taken: Answer) -> Answer {
+    match code {
+        0 => taken,
+        100 => Answer::Norm,
+        101 => Answer::Commitment,
+        102 => Answer::Long,
+        103 => Answer::Products,
+        _ => Answer::Refused(code.into()),
+    }
 }
 
 impl Call {
-    /// The answer of the static library, with its outputs in these slices.
-    pub fn by_library(&self, written: &mut [Slice]) -> Answer {
-        let p = Setting::unchecked(self.p.n, self.p.m, self.p.t, self.p.b, self.p.bound);
-        match (self.operation, &self.read[..], written) {
+    /// Both instances that a join or a verdict reads.
+    fn instances(&self) -> [Instance<'_>; 2] {
+        let [Words(t1), Numbers(d1), Words(t2), Numbers(d2), ..] = &self.read[..] else {
+            panic!("the slices are not those of {:?}", self.operation)
+        };
+        let [one, two] = self.leaves;
+        [Instance { t: t1, d: d1, leaves: one }, Instance { t: t2, d: d2, leaves: two }]
+    }
+
+    /// The answer of the static library, with what it writes in these outputs.
+    pub fn by_library(&self, written: &mut Outputs) -> Answer {
+        let (p, leaves) = (&self.p, &mut written.leaves[GUARD]);
+        let code = match (self.operation, &self.read[..], &mut written.slices[..]) {
             (Operation::Commit(profile), [Words(a), Numbers(s)], [Words(t), Numbers(d)]) => {
-                answered(library::commit(p, profile, a, s, lent(t), lent(d)))
+                library::commit(p, profile, a, s, lent(t), lent(d), leaves)
             }
             (
                 Operation::Message(profile),
                 [Words(a), Numbers(s1), Numbers(s2)],
                 [Numbers(v), Words(tt), Numbers(dd), Numbers(ss)],
-            ) => answered(library::message(p, profile, a, s1, s2, lent(v), lent(tt), lent(dd), lent(ss))),
+            ) => library::message(p, profile, a, s1, s2, lent(v), lent(tt), lent(dd), lent(ss)),
             (Operation::FoldWitness(profile), [Numbers(ss), Bytes(c)], [Numbers(s)]) => {
-                answered(library::fold_witness(p, profile, ss, c, lent(s)))
+                library::fold_witness(p, profile, ss, c, lent(s))
             }
-            (
-                Operation::Join(profile),
-                [Words(t1), Numbers(d1), Words(t2), Numbers(d2), Numbers(v)],
-                [Words(t), Numbers(d)],
-            ) => answered(library::join(p, profile, t1, d1, t2, d2, v, lent(t), lent(d))),
+            (Operation::Join(profile), [_, _, _, _, Numbers(v)], [Words(t), Numbers(d)]) => {
+                let [one, two] = self.instances();
+                library::join(p, profile, one, two, v, lent(t), lent(d), leaves)
+            }
             (
                 Operation::Verify(profile),
-                [Words(t1), Numbers(d1), Words(t2), Numbers(d2), Numbers(v), Words(tt), Numbers(dd), Bytes(c)],
+                [_, _, _, _, Numbers(v), Words(tt), Numbers(dd), Bytes(c)],
                 [Words(t), Numbers(d)],
-            ) => judged(library::verify(p, profile, t1, d1, t2, d2, v, tt, dd, c, lent(t), lent(d))),
+            ) => {
+                let [one, two] = self.instances();
+                library::verify(p, profile, one, two, v, tt, dd, c, lent(t), lent(d), leaves)
+            }
             (Operation::TestRelation, [Words(a), Words(t), Numbers(d), Numbers(s)], []) => {
-                related(lova::test_relation(p, a, t, d, s))
+                library::test_relation(p, a, t, d, s)
             }
             _ => panic!("the slices are not those of {:?}", self.operation),
-        }
+        };
+        answer(code, self.operation.taken())
     }
 
-    /// The answer of the reference, with its outputs in these slices.
-    fn by_reference(&self, written: &mut [Slice]) -> Answer {
-        let p = &self.p;
-        match (self.operation, &self.read[..], written) {
+    /// The answer of the reference, with what it writes in these outputs.
+    pub fn by_reference(&self, written: &mut Outputs) -> Answer {
+        let (p, leaves) = (&self.p, &mut written.leaves[GUARD]);
+        match (self.operation, &self.read[..], &mut written.slices[..]) {
             (Operation::Commit(profile), [Words(a), Numbers(s)], [Words(t), Numbers(d)]) => {
-                operations::commit(p, profile, a, s, lent(t), lent(d))
+                operations::commit(p, profile, a, s, lent(t), lent(d), leaves)
             }
             (
                 Operation::Message(profile),
@@ -284,16 +294,18 @@ impl Call {
             (Operation::FoldWitness(profile), [Numbers(ss), Bytes(c)], [Numbers(s)]) => {
                 operations::folded_witness(p, profile, ss, c, lent(s))
             }
-            (
-                Operation::Join(profile),
-                [Words(t1), Numbers(d1), Words(t2), Numbers(d2), Numbers(v)],
-                [Words(t), Numbers(d)],
-            ) => operations::join(p, profile, t1, d1, t2, d2, v, lent(t), lent(d)),
+            (Operation::Join(profile), [_, _, _, _, Numbers(v)], [Words(t), Numbers(d)]) => {
+                let [one, two] = self.instances();
+                operations::join(p, profile, one, two, v, lent(t), lent(d), leaves)
+            }
             (
                 Operation::Verify(profile),
-                [Words(t1), Numbers(d1), Words(t2), Numbers(d2), Numbers(v), Words(tt), Numbers(dd), Bytes(c)],
+                [_, _, _, _, Numbers(v), Words(tt), Numbers(dd), Bytes(c)],
                 [Words(t), Numbers(d)],
-            ) => operations::verdict(p, profile, t1, d1, t2, d2, v, tt, dd, c, lent(t), lent(d)),
+            ) => {
+                let [one, two] = self.instances();
+                operations::verdict(p, profile, one, two, v, tt, dd, c, lent(t), lent(d), leaves)
+            }
             (Operation::TestRelation, [Words(a), Words(t), Numbers(d), Numbers(s)], []) => {
                 operations::relation(p, a, t, d, s)
             }
@@ -304,27 +316,47 @@ impl Call {
     /// The place of a comparison, for a message.
     pub fn place(&self, case: u64) -> String {
         let lengths: Vec<usize> = self.read.iter().map(Slice::length).collect();
-        format!("seed {}, case {case}: {:?} at {:?}, lengths {lengths:?}", seed(), self.operation, self.p)
+        let (seed, operation, p, leaves) = (seed(), self.operation, self.p, self.leaves);
+        format!("seed {seed}, case {case}: {operation:?} at {p:?}, lengths {lengths:?}, leaves {leaves:?}")
+    }
+
+    /// What the place of a leaf count, with its guards, must hold after this answer.
+    fn counted(&self, answer: Answer) -> Count {
+        let [one, two] = self.leaves;
+        let held = self.written.leaves[GUARD];
+        let leaves = match (self.operation, answer) {
+            (_, Answer::Refused(_)) => held,
+            (Operation::Commit(_), _) => 1,
+            (Operation::Join(_), _) | (_, Answer::Yes) => one + two,
+            (Operation::Verify(_), _) => 0,
+            _ => held,
+        };
+        let mut place = self.written.leaves;
+        place[GUARD] = leaves;
+        place
     }
 
     /// Make the call both ways. The answers must be equal, and so must all that the outputs and
-    /// their guards hold afterwards; without done or yes that is what they held before.
+    /// their guards hold afterwards; without done or yes that is what they held before, but for a leaf count.
     pub fn compare(&self, case: u64) -> Answer {
         let (mut ours, mut theirs) = (self.written.clone(), self.written.clone());
         let answer = self.by_library(&mut ours);
         let expected = self.by_reference(&mut theirs);
         assert_eq!(answer, expected, "{}", self.place(case));
         if !matches!(expected, Answer::Done | Answer::Yes) {
-            assert!(ours == self.written, "{}: {expected:?}, and yet an output was written", self.place(case));
+            let kept = ours.slices == self.written.slices;
+            assert!(kept, "{}: {expected:?}, and yet an output was written", self.place(case));
         }
         assert_equal(&ours, &theirs, || self.place(case));
+        assert_eq!(ours.leaves, self.counted(expected), "{}: {expected:?}, the leaf count", self.place(case));
         expected
     }
 }
 
 /// Ask that what outputs hold after two calls is equal.
-pub fn assert_equal(ours: &[Slice], theirs: &[Slice], place: impl Fn() -> String) {
-    for (number, (own, other)) in ours.iter().zip(theirs).enumerate() {
+pub fn assert_equal(ours: &Outputs, theirs: &Outputs, place: impl Fn() -> String) {
+    for (number, (own, other)) in ours.slices.iter().zip(&theirs.slices).enumerate() {
         assert!(own == other, "{}: output {number}: {}", place(), own.difference(other));
     }
+    assert_eq!(ours.leaves, theirs.leaves, "{}: the leaf count", place());
 }

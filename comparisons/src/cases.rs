@@ -1,6 +1,6 @@
 //! Random calls: proper ones, damaged ones, ones with wrong lengths, ones at refused settings.
 
-use crate::calls::{Call, Matrix, Operation, Slice, GUARD};
+use crate::calls::{Call, Matrix, Operation, Outputs, Slice, GUARD};
 use crate::inputs::*;
 use crate::seed::{below, once_in, pick};
 use crate::settings::{accepted_where, bordering_evenly, FULL};
@@ -19,12 +19,10 @@ fn noise(rng: &mut Rng, matrix: Matrix, length: usize) -> Slice {
     }
 }
 
-/// The call of an operation that reads these slices at an accepted setting.
-fn call(rng: &mut Rng, operation: Operation, p: Parameters, read: Vec<Slice>) -> Call {
-    let profile = operation.profile();
-    let output = |matrix: &Matrix| noise(rng, *matrix, matrix.length(&p, profile) as usize + 2 * GUARD);
-    let written = operation.writes().iter().map(output).collect();
-    Call { operation, p, read, written }
+/// The call of an operation that reads and writes these slices.
+fn call(rng: &mut Rng, operation: Operation, p: Parameters, read: Vec<Slice>, slices: Vec<Slice>) -> Call {
+    let written = Outputs { slices, leaves: std::array::from_fn(|_| rng.word() as u32) };
+    Call { operation, p, read, leaves: leaf_counts(rng), written }
 }
 
 /// What the folded witness reads; a byte or a digit is out of bounds now and then, or both are.
@@ -77,7 +75,8 @@ pub fn fitting(rng: &mut Rng, operation: Operation, p: Parameters) -> Call {
         Operation::Verify(profile) => judged(rng, &p, profile).slices(),
         Operation::TestRelation => relation(rng, &p),
     };
-    call(rng, operation, p, read)
+    let written = operation.writes().iter().map(|x| noise(rng, *x, length(x) + 2 * GUARD)).collect();
+    call(rng, operation, p, read, written)
 }
 
 /// A call at a refused setting: slices of the matrices' lengths, as far as that goes, or of a few entries.
@@ -90,7 +89,7 @@ fn refused(rng: &mut Rng, operation: Operation, p: Parameters) -> Call {
     };
     let read = operation.reads().iter().map(|matrix| slice(matrix, 0)).collect();
     let written = operation.writes().iter().map(|matrix| slice(matrix, 2 * GUARD)).collect();
-    Call { operation, p, read, written }
+    call(rng, operation, p, read, written)
 }
 
 /// Lengths that differ from this one: by one, and by much.
@@ -101,7 +100,7 @@ pub fn other_lengths(length: usize) -> [usize; 5] {
 /// The slices lent to a call, those read first, with the entries around each.
 pub fn lent_slices(call: &mut Call) -> Vec<(&mut Slice, usize)> {
     let read = call.read.iter_mut().map(|slice| (slice, 0));
-    read.chain(call.written.iter_mut().map(|slice| (slice, 2 * GUARD))).collect()
+    read.chain(call.written.slices.iter_mut().map(|slice| (slice, 2 * GUARD))).collect()
 }
 
 /// Give one or two slices another length.

@@ -124,6 +124,22 @@ pub fn spoil_challenge(rng: &mut Rng, c: &mut [u8]) {
     c[at] = pick(rng, &[3, 4, 127, 128, 254, 255]);
 }
 
+/// Leaf counts of two instances. Once in ten they are refused, since one is 0 or the sum is above 2^32 − 1, often by one;
+/// else that sum is frequent.
+pub fn leaf_counts(rng: &mut Rng) -> [u32; 2] {
+    let mut drawn = |low: u32, high: u32| rng.between(low.into(), high.into()) as u32;
+    let any = drawn(1, u32::MAX - 1);
+    let ends = [1, 1, 2, 1 << 31, u32::MAX - 1, any, any, any];
+    let one = ends[drawn(0, 7) as usize];
+    let room = u32::MAX - one;
+    let (within, past) = (drawn(1, room), drawn(room + 1, u32::MAX));
+    let counts = match once_in(rng, 10) {
+        false => [one, pick(rng, &[1, room, within, within])],
+        true => pick(rng, &[[0, one], [0, 0], [0, u32::MAX], [one, room + 1], [one, past], [u32::MAX, one]]),
+    };
+    pick(rng, &[counts, [counts[1], counts[0]]])
+}
+
 /// A digit witness: of two witnesses, random within h, or all at h.
 pub fn digits(rng: &mut Rng, p: &Parameters, profile: Profile) -> Vec<i64> {
     let z = shaped(p);

@@ -1,58 +1,80 @@
-//! The calls of the static library that there are in both profiles.
+//! The C functions of the static library on slices, in both profiles; each gives its code.
+//!
+//! They are called as C calls them, since the bindings do not show what a call leaves in the place of a leaf count.
 
-use lova::{Answer, Refusal, Setting, Verdict};
-use reference::operations::Profile;
+// The bindings bring the archive.
+extern crate lova as _;
+
+#[allow(dead_code)]
+#[path = "../../bindings/src/raw.rs"]
+mod raw;
+
+use raw::*;
+use reference::operations::{Instance, Profile};
+use reference::settings::Parameters;
+
+/// n, m, t, b and B.
+fn five(p: &Parameters) -> [u64; 5] {
+    [p.n, p.m, p.t, p.b, p.bound]
+}
 
 /// Commit.
-pub fn commit(p: Setting, profile: Profile, a: &[u64], s: &[i64], t: &mut [u64], d: &mut [i64]) -> Answer {
-    let call = match profile {
-        Profile::General => lova::commit,
-        Profile::Fresh => lova::commit_fresh,
+pub fn commit(
+    p: &Parameters, profile: Profile, a: &[u64], s: &[i64], t: &mut [u64], d: &mut [i64], leaves: &mut u32,
+) -> u8 {
+    let function = match profile {
+        Profile::General => lova_commit,
+        Profile::Fresh => lova_commit_fresh,
     };
-    call(p, a, s, t, d)
+    call!(function, five(p), [a, s] => [t, d] leaves)
 }
 
 /// Message.
 pub fn message(
-    p: Setting, profile: Profile, a: &[u64], s1: &[i64], s2: &[i64],
+    p: &Parameters, profile: Profile, a: &[u64], s1: &[i64], s2: &[i64],
     v: &mut [i64], tt: &mut [u64], dd: &mut [i64], ss: &mut [i64],
-) -> Answer {
-    let call = match profile {
-        Profile::General => lova::message,
-        Profile::Fresh => lova::message_fresh,
+) -> u8 {
+    let function = match profile {
+        Profile::General => lova_message,
+        Profile::Fresh => lova_message_fresh,
     };
-    call(p, a, s1, s2, v, tt, dd, ss)
+    call!(function, five(p), [a, s1, s2] => [v, tt, dd, ss])
 }
 
 /// Folded witness.
-pub fn fold_witness(p: Setting, profile: Profile, ss: &[i64], c: &[u8], s: &mut [i64]) -> Answer {
-    let call = match profile {
-        Profile::General => lova::fold_witness,
-        Profile::Fresh => lova::fold_witness_fresh,
+pub fn fold_witness(p: &Parameters, profile: Profile, ss: &[i64], c: &[u8], s: &mut [i64]) -> u8 {
+    let function = match profile {
+        Profile::General => lova_fold_witness,
+        Profile::Fresh => lova_fold_witness_fresh,
     };
-    call(p, ss, c, s)
+    call!(function, five(p), [ss, c] => [s])
 }
 
 /// Join.
 pub fn join(
-    p: Setting, profile: Profile, t1: &[u64], d1: &[i64], t2: &[u64], d2: &[i64], v: &[i64],
-    t: &mut [u64], d: &mut [i64],
-) -> Answer {
-    let call = match profile {
-        Profile::General => lova::join,
-        Profile::Fresh => lova::join_fresh,
+    p: &Parameters, profile: Profile, one: Instance, two: Instance, v: &[i64],
+    t: &mut [u64], d: &mut [i64], leaves: &mut u32,
+) -> u8 {
+    let function = match profile {
+        Profile::General => lova_join,
+        Profile::Fresh => lova_join_fresh,
     };
-    call(p, t1, d1, t2, d2, v, t, d)
+    call!(function, five(p), [one.t, one.d] one.leaves, [two.t, two.d] two.leaves, [v] => [t, d] leaves)
 }
 
 /// Verdict.
 pub fn verify(
-    p: Setting, profile: Profile, t1: &[u64], d1: &[i64], t2: &[u64], d2: &[i64], v: &[i64],
-    tt: &[u64], dd: &[i64], c: &[u8], t: &mut [u64], d: &mut [i64],
-) -> Result<Verdict, Refusal> {
-    let call = match profile {
-        Profile::General => lova::verify,
-        Profile::Fresh => lova::verify_fresh,
+    p: &Parameters, profile: Profile, one: Instance, two: Instance, v: &[i64], tt: &[u64], dd: &[i64], c: &[u8],
+    t: &mut [u64], d: &mut [i64], leaves: &mut u32,
+) -> u8 {
+    let function = match profile {
+        Profile::General => lova_verify,
+        Profile::Fresh => lova_verify_fresh,
     };
-    call(p, t1, d1, t2, d2, v, tt, dd, c, t, d)
+    call!(function, five(p), [one.t, one.d] one.leaves, [two.t, two.d] two.leaves, [v, tt, dd, c] => [t, d] leaves)
+}
+
+/// Relation test.
+pub fn test_relation(p: &Parameters, a: &[u64], t: &[u64], d: &[i64], s: &[i64]) -> u8 {
+    call!(lova_test_relation, five(p), [a, t, d, s] => [])
 }

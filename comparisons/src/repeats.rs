@@ -1,7 +1,7 @@
 //! A fresh call against the general one, both made by the static library: the outcomes are equal once all that is fresh
 //! is repeated t times.
 
-use crate::calls::{assert_equal, Call, Matrix, Operation, Slice, GUARD};
+use crate::calls::{assert_equal, Call, Matrix, Operation, Outputs, Slice, GUARD};
 use reference::matrices::{lower, mirrored, repeated, repeated_square};
 use reference::operations::Profile::{Fresh, General};
 use reference::settings::{shape, Shape};
@@ -54,7 +54,7 @@ impl Call {
             let lengths = matrices.iter().map(|matrix| matrix.length(&self.p, self.operation.profile()));
             lengths.zip(slices).all(|(length, slice)| length == (slice.length() - around) as u128)
         };
-        fit(self.operation.reads(), &self.read, 0) && fit(self.operation.writes(), &self.written, 2 * GUARD)
+        fit(self.operation.reads(), &self.read, 0) && fit(self.operation.writes(), &self.written.slices, 2 * GUARD)
     }
 
     /// Make a fresh call and the general one, with what the outputs hold repeated as well. The answers must be equal, and
@@ -70,14 +70,17 @@ impl Call {
             Some(z) => all_repeated(z, around, matrices, slices),
             None => slices.to_vec(),
         };
+        let outputs = |fresh: &Outputs| Outputs {
+            slices: general(self.operation.writes(), GUARD, &fresh.slices),
+            leaves: fresh.leaves,
+        };
         let mut fresh = self.written.clone();
         let answer = self.by_library(&mut fresh);
-        let mut expected = general(self.operation.writes(), GUARD, &self.written);
         let read = general(self.operation.reads(), 0, &self.read);
-        let other = Call { operation, p: self.p, read, written: Vec::new() };
+        let other = Call { operation, p: self.p, read, leaves: self.leaves, written: outputs(&self.written) };
+        let mut expected = other.written.clone();
         assert_eq!(answer, other.by_library(&mut expected), "{}: the general call", self.place(case));
-        let ours = general(self.operation.writes(), GUARD, &fresh);
-        assert_equal(&ours, &expected, || format!("{}: the general call", self.place(case)));
+        assert_equal(&outputs(&fresh), &expected, || format!("{}: the general call", self.place(case)));
         true
     }
 }

@@ -105,7 +105,7 @@ fn made(rng: &mut Rng, z: &Shape, profile: Profile, c: Vec<u8>) -> Judged {
     let node = |part: Range<usize>| Node {
         t: block(&joined, wide, 0..z.n, part.clone()),
         d: block(&d, wide, part.clone(), part),
-        s: Vec::new(),
+        ..Node::default()
     };
     let sent = Message { v: block(&d, wide, 0..t, t..wide), tt, dd, ss: Vec::new() };
     Judged { left: node(0..t), right: node(t..wide), sent, c }
@@ -114,7 +114,9 @@ fn made(rng: &mut Rng, z: &Shape, profile: Profile, c: Vec<u8>) -> Judged {
 /// Inputs that have nothing to do with each other, D~ within H.
 fn unrelated(rng: &mut Rng, z: &Shape, profile: Profile, c: Vec<u8>) -> Judged {
     let (right, columns) = (profile.right(z), profile.columns(z));
-    let mut node = |width: usize| Node { t: words(rng, z.n * width), d: numbers(rng, width * width), s: Vec::new() };
+    let mut node = |width: usize| {
+        Node { t: words(rng, z.n * width), d: numbers(rng, width * width), ..Node::default() }
+    };
     let (left, right_node) = (node(z.t), node(right));
     let dd = within(rng, triangle_length(columns), z.product_limit as i64);
     let sent = Message { v: numbers(rng, z.t * right), tt: words(rng, z.n * columns), dd, ss: Vec::new() };

@@ -17,7 +17,7 @@ type Feed = fn(&Path, &[u8], &mut Rng) -> io::Result<Output>;
 /// What occurs beside the endings.
 const ALSO: [&str; 3] = ["by pieces", "by pipe", "fold yes"];
 
-/// How a run can end.
+/// How a run can end; 15 takes 2^32 leaves.
 const ENDS: [&str; 10] = [
     "end member", "refused 1", "refused 2", "refused 3", "refused 4", "refused 5", "refused 6", "refused 8",
     "refused 13", "refused 14",

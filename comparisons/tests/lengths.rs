@@ -63,11 +63,15 @@ fn wrong_lengths() {
         let p = if case == 0 { LIST[0] } else { accepted_where(&mut rng, FULL, small) };
         for operation in Operation::ALL {
             let call = fitting(&mut rng, operation, p);
-            assert_ne!(call.compare(case), Answer::Refused(7));
+            let answer = call.compare(case);
+            assert_ne!(answer, Answer::Refused(7));
+            if answer == Answer::Refused(15) {
+                tally.note("7 before 15");
+            }
             each_slice(&call, &mut tally, case);
         }
     }
-    finish(tally, &["a length of the other profile", "the length of a square"]);
+    finish(tally, &["a length of the other profile", "the length of a square", "7 before 15"]);
 }
 
 #[test]
@@ -78,7 +82,7 @@ fn one_entry_moved() {
         let p = accepted_where(&mut rng, FULL, small);
         let operation = Operation::ALL[case as usize % Operation::ALL.len()];
         let mut call = fitting(&mut rng, operation, p);
-        let slices = call.read.len() + call.written.len();
+        let slices = call.read.len() + call.written.slices.len();
         let longer = below(&mut rng, slices);
         let shorter = (longer + 1 + below(&mut rng, slices - 1)) % slices;
         change(&mut call, longer, |length| length + 1);

@@ -7,8 +7,8 @@ use comparisons::seed::generator;
 use comparisons::settings::{accepted_where, FULL};
 use comparisons::tally::Tally;
 use reference::matrices::squared_length;
-use reference::operations::Answer;
 use reference::operations::Profile::{self, Fresh, General};
+use reference::operations::{Answer, GREATEST_LEAVES};
 use reference::settings::{refusal, Parameters, LIST};
 
 /// The work of a case, in products of two entries.
@@ -63,6 +63,7 @@ fn compared(operation: Operation, cases: u64) -> Tally {
             note_columns(&mut tally, &call);
             note_diagonals(&mut tally, &call, answer);
             note_symmetry(&mut tally, &call, answer, case);
+            note_leaves(&mut tally, &call, answer);
         }
     }
     tally
@@ -138,6 +139,39 @@ fn note_symmetry(tally: &mut Tally, call: &Call, answer: Answer, case: u64) {
     }
 }
 
+/// Count leaf counts at the borders, and what 15 comes before and after.
+fn note_leaves(tally: &mut Tally, call: &Call, answer: Answer) {
+    let (Operation::Join(_) | Operation::Verify(_), [one, two]) = (call.operation, call.leaves) else { return };
+    let sum = u64::from(one) + u64::from(two);
+    let refused = one == 0 || two == 0 || sum > GREATEST_LEAVES;
+    let notes = [
+        (answer == Answer::Refused(7) && refused, "7 before 15"),
+        (answer == Answer::Refused(15) && one == 0 && two > 0, "no leaves in the first"),
+        (answer == Answer::Refused(15) && one > 0 && two == 0, "no leaves in the second"),
+        (answer == Answer::Refused(15) && sum == GREATEST_LEAVES + 1, "one leaf too many"),
+        ([Answer::Done, Answer::Yes].contains(&answer) && sum == GREATEST_LEAVES, "the most leaves"),
+    ];
+    notes.iter().filter(|(holds, _)| *holds).for_each(|(_, note)| tally.note(note));
+    if answer == Answer::Refused(15) {
+        let other = Call { leaves: [1, 1], ..call.clone() };
+        let otherwise = other.by_reference(&mut other.written.clone());
+        tally.note(&format!("15 before {}", otherwise.word()));
+    }
+}
+
+/// The borders of leaf counts.
+const LEAVES: [&str; 6] = [
+    "refused(15)", "7 before 15", "no leaves in the first", "no leaves in the second", "one leaf too many",
+    "the most leaves",
+];
+
+/// Ask that each word occurs more than once in so many cases.
+fn assert_frequent<'a>(tally: &Tally, cases: u64, words: impl IntoIterator<Item = (&'a str, u64)>) {
+    for (word, share) in words {
+        assert!(tally.count(word) > cases / share, "{word}: {} of {cases}", tally.count(word));
+    }
+}
+
 /// The borders of a commitment.
 const COMMITTED: [&str; 5] = ["done", "refused(8)", "N is 512", "a column at B", "a column at B + 1"];
 
@@ -171,14 +205,22 @@ fn fold_witness_fresh() {
     compare(Operation::FoldWitness(Fresh), 12000, &["done", "N is 512", "refused(9)", "refused(11)"]);
 }
 
+/// Compare joins; both answers are to be frequent.
+fn compare_joins(profile: Profile, cases: u64) {
+    let tally = compared(Operation::Join(profile), cases);
+    assert_frequent(&tally, cases, [("done", 3), ("refused(15)", 30)]);
+    let words = ["done", "N is 512", "15 before done"];
+    tally.finish(&[&COMMON[..], &words, &LEAVES, counted(profile)].concat());
+}
+
 #[test]
 fn join() {
-    compare(Operation::Join(General), 40000, &["done", "N is 512"]);
+    compare_joins(General, 40000);
 }
 
 #[test]
 fn join_fresh() {
-    compare(Operation::Join(Fresh), 12000, &["done", "N is 512"]);
+    compare_joins(Fresh, 12000);
 }
 
 /// The instances that can be unsymmetric: a fresh D2 is one entry.
@@ -192,16 +234,16 @@ fn unsymmetric(profile: Profile) -> &'static [&'static str] {
 /// Compare verdicts; each answer is to be frequent, and unsymmetric instances are to occur.
 fn compare_verdicts(profile: Profile, cases: u64) {
     let tally = compared(Operation::Verify(profile), cases);
-    let answers = [("yes", 5), ("long", 50), ("norm", 50), ("commitment", 50)];
+    let answers = [("yes", 5), ("long", 50), ("norm", 50), ("commitment", 50), ("refused(15)", 30)];
     let rare = unsymmetric(profile).iter().map(|word| (*word, 1000));
-    for (word, share) in answers.into_iter().chain(rare) {
-        assert!(tally.count(word) > cases / share, "{word}: {} of {cases}", tally.count(word));
-    }
+    assert_frequent(&tally, cases, answers.into_iter().chain(rare));
     let words = ["yes", "long", "norm", "commitment", "refused(9)", "refused(10)"];
+    let later = words.map(|word| format!("15 before {word}"));
+    let later = later.each_ref().map(String::as_str);
     let borders = [
         "yes with a diagonal entry at B", "yes with a diagonal entry below 0", "long by one", "long in D2 alone",
     ];
-    tally.finish(&[&COMMON[..], &words, &borders, unsymmetric(profile), counted(profile)].concat());
+    tally.finish(&[&COMMON[..], &words, &LEAVES, &later, &borders, unsymmetric(profile), counted(profile)].concat());
 }
 
 #[test]

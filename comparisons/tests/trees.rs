@@ -1,12 +1,12 @@
-//! Honest trees of the static library, with fresh leaves: every verdict is yes, and the root is the plain tree's.
+//! Honest trees by the bindings, with fresh leaves: every verdict is yes, and the root is the plain tree's and counts its
+//! leaves.
 
 use comparisons::calls::Operation;
 use comparisons::inputs::{challenge, second, shaped, witness, words};
-use comparisons::library;
 use comparisons::seed::{below, generator, once_in, pick, seed};
 use comparisons::settings::{accepted_where, FULL};
 use comparisons::tally::Tally;
-use lova::{Membership, Setting, Verdict};
+use lova::{Instance, Membership, Setting, Verdict};
 use reference::matrices::{beside, inner_products, repeated, triangle_length, whole, wrapped, wrapping_product};
 use reference::operations::Profile::{self, Fresh, General};
 use reference::rng::Rng;
@@ -55,6 +55,11 @@ fn tree(rng: &mut Rng, p: &Parameters, leaves: usize, form: Form) -> Tree {
     Tree::Fold(one, Box::new(tree(rng, p, leaves - left, form)), c)
 }
 
+/// The instance of a node.
+fn instance(node: &Node) -> Instance<'_> {
+    Instance { t: &node.t, d: &node.d, leaves: node.leaves }
+}
+
 impl Grower<'_> {
     /// T = A S and D = S-transposed S, as the witness opens them.
     fn opened(&self, s: &[i64], columns: usize) -> (Vec<u64>, Vec<i128>) {
@@ -84,16 +89,18 @@ impl Grower<'_> {
     fn leaf(&self, profile: Profile, s: &[i64]) -> Node {
         let right = profile.right(self.z);
         let (mut t, mut d) = (vec![9; self.z.n * right], vec![9; right * right]);
-        assert_eq!(library::commit(self.p, profile, &self.a, s, &mut t, &mut d), Ok(()));
-        Node { t, d, s: s.to_vec() }
+        let commit = if profile == Fresh { lova::commit_fresh } else { lova::commit };
+        let leaves = commit(self.p, &self.a, s, &mut t, &mut d).expect("a witness within B").leaves;
+        Node { t, d, leaves, s: s.to_vec() }
     }
 
-    /// The joined instance is what both witnesses open, the second with t columns.
+    /// The joined instance is what both witnesses open, the second with t columns, and counts the leaves of both.
     fn check_join(&self, profile: Profile, one: &Node, two: &Node, v: &[i64]) {
         let (n, m, t) = (self.z.n, self.z.m, self.z.t);
         let (mut joined_t, mut joined_d) = (vec![9; 2 * n * t], vec![9; 4 * t * t]);
-        let joined = library::join(self.p, profile, &one.t, &one.d, &two.t, &two.d, v, &mut joined_t, &mut joined_d);
-        assert_eq!(joined, Ok(()));
+        let join = if profile == Fresh { lova::join_fresh } else { lova::join };
+        let joined = join(self.p, instance(one), instance(two), v, &mut joined_t, &mut joined_d);
+        assert_eq!(joined.map(|joined| joined.leaves), Ok(one.leaves + two.leaves));
         let second = repeated(&two.s, profile.right(self.z), 0, profile.times(self.z));
         assert_eq!((joined_t, whole(&joined_d)), self.opened(&beside(&one.s, &second, m, t), 2 * t));
     }
@@ -103,26 +110,31 @@ impl Grower<'_> {
         let (p, n, m, t, columns) = (self.p, self.z.n, self.z.m, self.z.t, profile.columns(self.z));
         let (mut v, mut tt) = (vec![9; t * profile.right(self.z)], vec![9; n * columns]);
         let (mut dd, mut ss) = (vec![9; triangle_length(columns)], vec![9; m * columns]);
-        let sent = library::message(p, profile, &self.a, &one.s, &two.s, &mut v, &mut tt, &mut dd, &mut ss);
-        assert_eq!(sent, Ok(()));
+        let message = if profile == Fresh { lova::message_fresh } else { lova::message };
+        assert_eq!(message(p, &self.a, &one.s, &two.s, &mut v, &mut tt, &mut dd, &mut ss), Ok(()));
         self.check_join(profile, one, two, &v);
-        let mut node = Node { t: vec![9; n * t], d: vec![9; t * t], s: vec![9; m * t] };
-        let verdict =
-            library::verify(p, profile, &one.t, &one.d, &two.t, &two.d, &v, &tt, &dd, c, &mut node.t, &mut node.d);
-        assert_eq!(verdict, Ok(Verdict::Yes), "seed {}, fold {} at {p:?}", seed(), self.folds + 1);
-        assert_eq!(library::fold_witness(p, profile, &ss, c, &mut node.s), Ok(()));
+        let mut node = Node { t: vec![9; n * t], d: vec![9; t * t], leaves: 9, s: vec![9; m * t] };
+        let verify = if profile == Fresh { lova::verify_fresh } else { lova::verify };
+        let verdict = verify(p, instance(one), instance(two), &v, &tt, &dd, c, &mut node.t, &mut node.d);
+        let Ok(Verdict::Yes(folded)) = verdict else {
+            panic!("seed {}, fold {} at {p:?}: {verdict:?}", seed(), self.folds + 1)
+        };
+        node.leaves = folded.leaves;
+        let fold_witness = if profile == Fresh { lova::fold_witness_fresh } else { lova::fold_witness };
+        assert_eq!(fold_witness(p, &ss, c, &mut node.s), Ok(()));
         self.folds += 1;
         node
     }
 }
 
-/// Grow a tree by the library and hold it against the plain tree; the numbers of its folds and of its fresh leaves.
+/// Grow a tree by the bindings and hold it against the plain tree; the numbers of its folds and of its fresh leaves.
 fn check(rng: &mut Rng, p: &Parameters, tree: &Tree) -> (usize, usize) {
     let setting = Setting::new(p.n, p.m, p.t, p.b, p.bound).expect("an accepted setting");
     let a = words(rng, (p.n * p.m) as usize);
     let mut grower = Grower { p: setting, z: &shaped(p), a, folds: 0, fresh: 0 };
     let root = grower.grow(tree);
     assert_eq!(Some(&root.s), plain(p, tree).as_ref(), "seed {}: the root at {p:?}", seed());
+    assert_eq!(u64::from(root.leaves), tree.leaves(), "seed {}: the leaves at {p:?}", seed());
     let member = lova::test_relation(setting, &grower.a, &root.t, &root.d, &root.s);
     assert_eq!(member, Ok(Membership::Member));
     (grower.folds, grower.fresh)
@@ -137,7 +149,7 @@ fn check_many(name: &str, trees: usize, leaves: usize, draw: impl Fn(&mut Rng, u
         let leaves = if number < 4 { leaves } else { 1 + below(&mut rng, leaves) };
         let tree = tree(&mut rng, &p, leaves, form);
         let (folds, fresh) = check(&mut rng, &p, &tree);
-        assert_eq!(folds, leaves - 1);
+        assert_eq!((folds, tree.leaves()), (leaves - 1, leaves as u64));
         tally.case(&format!("{form:?}"));
         (0..folds).for_each(|_| tally.note("yes"));
         (0..fresh).for_each(|_| tally.note(if p.t == 1 { "fresh at t = 1" } else { "fresh at t > 1" }));

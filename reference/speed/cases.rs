@@ -70,7 +70,7 @@ pub fn case(p: [u64; 5]) -> Case {
     let c = (0..columns * t).map(|_| (numbers.next() % 3) as u8).collect();
     let instance = |s: &[i64]| {
         let (mut t_out, mut d_out) = (vec![0; n * t], vec![0; t * t]);
-        assert_eq!(plain::commit(p, &a, s, &mut t_out, &mut d_out), 0);
+        assert_eq!(plain::commit(p, &a, s, &mut t_out, &mut d_out, &mut 0), 0);
         (t_out, d_out)
     };
     let ((t1, d1), (t2, d2)) = (instance(&s1), instance(&s2));
@@ -87,7 +87,7 @@ pub fn case(p: [u64; 5]) -> Case {
 fn fresh(z: &plain::Shape, p: [u64; 5], a: &[u64], s1: &[i64], vector: &[i64]) -> Fresh {
     let (n, m, t, columns) = (z.n, z.m, z.t, z.k * z.t + z.k);
     let (mut t2, mut d2) = (vec![0; n], vec![0]);
-    assert_eq!(plain::commit_fresh(p, a, vector, &mut t2, &mut d2), 0);
+    assert_eq!(plain::commit_fresh(p, a, vector, &mut t2, &mut d2, &mut 0), 0);
     let (mut v, mut tt) = (vec![0; t], vec![0; n * columns]);
     let (mut dd, mut ss) = (vec![0; plain::triangle(columns)], vec![0; m * columns]);
     assert_eq!(plain::message_fresh(p, a, s1, vector, &mut v, &mut tt, &mut dd, &mut ss), 0);

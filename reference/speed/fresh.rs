@@ -10,7 +10,7 @@ fn fresh_columns(z: &Shape) -> usize {
 
 /// Commit: 0, or the refusal.
 #[inline(never)]
-pub fn commit_fresh(p: [u64; 5], a: &[u64], vector: &[i64], t: &mut [u64], d: &mut [i64]) -> u8 {
+pub fn commit_fresh(p: [u64; 5], a: &[u64], vector: &[i64], t: &mut [u64], d: &mut [i64], leaves: &mut u32) -> u8 {
     let z = match shape(p) {
         Ok(z) => z,
         Err(number) => return number,
@@ -25,6 +25,7 @@ pub fn commit_fresh(p: [u64; 5], a: &[u64], vector: &[i64], t: &mut [u64], d: &m
         *o = row.iter().zip(vector).fold(0u64, |sum, (x, y)| sum.wrapping_add(x.wrapping_mul(*y as u64)));
     }
     d[0] = vector.iter().map(|x| x * x).sum();
+    *leaves = 1;
     0
 }
 
@@ -96,7 +97,8 @@ pub fn fold_witness_fresh(p: [u64; 5], ss: &[i64], c: &[u8], s: &mut [i64]) -> u
 /// Join: 0, or the refusal.
 #[inline(never)]
 pub fn join_fresh(
-    p: [u64; 5], t1: &[u64], d1: &[i64], t2: &[u64], d2: &[i64], v: &[i64], t: &mut [u64], d: &mut [i64],
+    p: [u64; 5], t1: &[u64], d1: &[i64], leaves1: u32, t2: &[u64], d2: &[i64], leaves2: u32, v: &[i64],
+    t: &mut [u64], d: &mut [i64], leaves: &mut u32,
 ) -> u8 {
     let z = match shape(p) {
         Ok(z) => z,
@@ -107,6 +109,7 @@ pub fn join_fresh(
     if !first || !second || t.len() != 2 * z.n * z.t || d.len() != 4 * z.t * z.t {
         return 7;
     }
+    let Some(sum) = leaves_under(leaves1, leaves2) else { return 15 };
     for ((left, x), row) in t1.chunks_exact(z.t).zip(t2).zip(t.chunks_exact_mut(2 * z.t)) {
         row[..z.t].copy_from_slice(left);
         row[z.t..].fill(*x);
@@ -120,14 +123,15 @@ pub fn join_fresh(
         row[..z.t].copy_from_slice(v);
         row[z.t..].fill(d2[0]);
     }
+    *leaves = sum;
     0
 }
 
 /// Verdict: its answer, or the refusal.
 #[inline(never)]
 pub fn verify_fresh(
-    p: [u64; 5], t1: &[u64], d1: &[i64], t2: &[u64], d2: &[i64], v: &[i64], tt: &[u64], dd: &[i64], c: &[u8],
-    t: &mut [u64], d: &mut [i64],
+    p: [u64; 5], t1: &[u64], d1: &[i64], leaves1: u32, t2: &[u64], d2: &[i64], leaves2: u32, v: &[i64],
+    tt: &[u64], dd: &[i64], c: &[u8], t: &mut [u64], d: &mut [i64], leaves: &mut u32,
 ) -> u8 {
     let z = match shape(p) {
         Ok(z) => z,
@@ -140,6 +144,7 @@ pub fn verify_fresh(
     if !instance(t1, d1) || !second || !sent || c.len() != z.columns * z.t || !instance(t, d) {
         return 7;
     }
+    let Some(sum) = leaves_under(leaves1, leaves2) else { return 15 };
     if c.iter().any(|v| *v > 2) {
         return 9;
     }
@@ -147,6 +152,7 @@ pub fn verify_fresh(
         return 10;
     }
     let answer = judged(&z, t1, d1, t2, d2, v, 1, tt, dd);
+    *leaves = if answer == 0 { sum } else { 0 };
     if answer == 0 {
         let rows = summed(&z, c);
         fold_wrapping(tt, &rows, |v| *v, columns, z.t, t);

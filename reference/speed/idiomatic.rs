@@ -258,9 +258,14 @@ fn write_joined(
     }
 }
 
+/// The leaves under both instances; nothing where one has none, or both have more than 2^32 − 1.
+fn leaves_under(leaves1: u32, leaves2: u32) -> Option<u32> {
+    leaves1.checked_add(leaves2).filter(|_| leaves1 > 0 && leaves2 > 0)
+}
+
 /// Commit: 0, or the refusal.
 #[inline(never)]
-pub fn commit(p: [u64; 5], a: &[u64], s: &[i64], t: &mut [u64], d: &mut [i64]) -> u8 {
+pub fn commit(p: [u64; 5], a: &[u64], s: &[i64], t: &mut [u64], d: &mut [i64], leaves: &mut u32) -> u8 {
     let z = match shape(p) {
         Ok(z) => z,
         Err(number) => return number,
@@ -273,6 +278,7 @@ pub fn commit(p: [u64; 5], a: &[u64], s: &[i64], t: &mut [u64], d: &mut [i64]) -
     }
     commitment(a, s, z.m, z.t, t);
     products(s, s, z.t, d);
+    *leaves = 1;
     0
 }
 
@@ -323,7 +329,8 @@ pub fn fold_witness(p: [u64; 5], ss: &[i64], c: &[u8], s: &mut [i64]) -> u8 {
 /// Join: 0, or the refusal.
 #[inline(never)]
 pub fn join(
-    p: [u64; 5], t1: &[u64], d1: &[i64], t2: &[u64], d2: &[i64], v: &[i64], t: &mut [u64], d: &mut [i64],
+    p: [u64; 5], t1: &[u64], d1: &[i64], leaves1: u32, t2: &[u64], d2: &[i64], leaves2: u32, v: &[i64],
+    t: &mut [u64], d: &mut [i64], leaves: &mut u32,
 ) -> u8 {
     let z = match shape(p) {
         Ok(z) => z,
@@ -334,7 +341,9 @@ pub fn join(
     if !first || !second || t.len() != 2 * z.n * z.t || d.len() != 4 * z.t * z.t {
         return 7;
     }
+    let Some(sum) = leaves_under(leaves1, leaves2) else { return 15 };
     write_joined(&z, t1, d1, t2, d2, v, z.t, t, d);
+    *leaves = sum;
     0
 }
 
@@ -397,8 +406,8 @@ fn judged(
 /// Verdict: its answer, or the refusal.
 #[inline(never)]
 pub fn verify(
-    p: [u64; 5], t1: &[u64], d1: &[i64], t2: &[u64], d2: &[i64], v: &[i64], tt: &[u64], dd: &[i64], c: &[u8],
-    t: &mut [u64], d: &mut [i64],
+    p: [u64; 5], t1: &[u64], d1: &[i64], leaves1: u32, t2: &[u64], d2: &[i64], leaves2: u32, v: &[i64],
+    tt: &[u64], dd: &[i64], c: &[u8], t: &mut [u64], d: &mut [i64], leaves: &mut u32,
 ) -> u8 {
     let z = match shape(p) {
         Ok(z) => z,
@@ -409,6 +418,7 @@ pub fn verify(
     if !instance(t1, d1) || !instance(t2, d2) || !sent || c.len() != z.columns * z.t || !instance(t, d) {
         return 7;
     }
+    let Some(sum) = leaves_under(leaves1, leaves2) else { return 15 };
     if c.iter().any(|v| *v > 2) {
         return 9;
     }
@@ -416,6 +426,7 @@ pub fn verify(
         return 10;
     }
     let answer = judged(&z, t1, d1, t2, d2, v, z.t, tt, dd);
+    *leaves = if answer == 0 { sum } else { 0 };
     if answer == 0 {
         fold_words(tt, c, z.columns, z.t, t);
         fold_products(dd, c, z.columns, z.t, d);

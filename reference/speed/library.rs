@@ -48,60 +48,62 @@ pub fn s(s: &[i64], c: &[u8], m: usize, columns: usize, t: usize, out: &mut [i64
     unsafe { product_s(s.as_ptr(), s.len(), c.as_ptr(), c.len(), m, columns, t, out.as_mut_ptr(), out.len()) }
 }
 
-pub fn commit(p: [u64; 5], a: &[u64], s: &[i64], t: &mut [u64], d: &mut [i64]) -> u8 {
-    call!(lova_commit, p, [a, s], [t, d])
+pub fn commit(p: [u64; 5], a: &[u64], s: &[i64], t: &mut [u64], d: &mut [i64], leaves: &mut u32) -> u8 {
+    call!(lova_commit, p, [a, s] => [t, d] leaves)
 }
 
-pub fn commit_fresh(p: [u64; 5], a: &[u64], vector: &[i64], t: &mut [u64], d: &mut [i64]) -> u8 {
-    call!(lova_commit_fresh, p, [a, vector], [t, d])
+pub fn commit_fresh(p: [u64; 5], a: &[u64], vector: &[i64], t: &mut [u64], d: &mut [i64], leaves: &mut u32) -> u8 {
+    call!(lova_commit_fresh, p, [a, vector] => [t, d] leaves)
 }
 
 pub fn message(
     p: [u64; 5], a: &[u64], s1: &[i64], s2: &[i64], v: &mut [i64], tt: &mut [u64], dd: &mut [i64], ss: &mut [i64],
 ) -> u8 {
-    call!(lova_message, p, [a, s1, s2], [v, tt, dd, ss])
+    call!(lova_message, p, [a, s1, s2] => [v, tt, dd, ss])
 }
 
 pub fn message_fresh(
     p: [u64; 5], a: &[u64], s1: &[i64], vector: &[i64], v: &mut [i64], tt: &mut [u64], dd: &mut [i64], ss: &mut [i64],
 ) -> u8 {
-    call!(lova_message_fresh, p, [a, s1, vector], [v, tt, dd, ss])
+    call!(lova_message_fresh, p, [a, s1, vector] => [v, tt, dd, ss])
 }
 
 pub fn fold_witness(p: [u64; 5], ss: &[i64], c: &[u8], s: &mut [i64]) -> u8 {
-    call!(lova_fold_witness, p, [ss, c], [s])
+    call!(lova_fold_witness, p, [ss, c] => [s])
 }
 
 pub fn fold_witness_fresh(p: [u64; 5], ss: &[i64], c: &[u8], s: &mut [i64]) -> u8 {
-    call!(lova_fold_witness_fresh, p, [ss, c], [s])
+    call!(lova_fold_witness_fresh, p, [ss, c] => [s])
 }
 
 pub fn join(
-    p: [u64; 5], t1: &[u64], d1: &[i64], t2: &[u64], d2: &[i64], v: &[i64], t: &mut [u64], d: &mut [i64],
+    p: [u64; 5], t1: &[u64], d1: &[i64], leaves1: u32, t2: &[u64], d2: &[i64], leaves2: u32, v: &[i64],
+    t: &mut [u64], d: &mut [i64], leaves: &mut u32,
 ) -> u8 {
-    call!(lova_join, p, [t1, d1, t2, d2, v], [t, d])
+    call!(lova_join, p, [t1, d1] leaves1, [t2, d2] leaves2, [v] => [t, d] leaves)
 }
 
 pub fn join_fresh(
-    p: [u64; 5], t1: &[u64], d1: &[i64], t2: &[u64], d2: &[i64], v: &[i64], t: &mut [u64], d: &mut [i64],
+    p: [u64; 5], t1: &[u64], d1: &[i64], leaves1: u32, t2: &[u64], d2: &[i64], leaves2: u32, v: &[i64],
+    t: &mut [u64], d: &mut [i64], leaves: &mut u32,
 ) -> u8 {
-    call!(lova_join_fresh, p, [t1, d1, t2, d2, v], [t, d])
+    call!(lova_join_fresh, p, [t1, d1] leaves1, [t2, d2] leaves2, [v] => [t, d] leaves)
 }
 
 pub fn verify(
-    p: [u64; 5], t1: &[u64], d1: &[i64], t2: &[u64], d2: &[i64], v: &[i64], tt: &[u64], dd: &[i64], c: &[u8],
-    t: &mut [u64], d: &mut [i64],
+    p: [u64; 5], t1: &[u64], d1: &[i64], leaves1: u32, t2: &[u64], d2: &[i64], leaves2: u32, v: &[i64],
+    tt: &[u64], dd: &[i64], c: &[u8], t: &mut [u64], d: &mut [i64], leaves: &mut u32,
 ) -> u8 {
-    call!(lova_verify, p, [t1, d1, t2, d2, v, tt, dd, c], [t, d])
+    call!(lova_verify, p, [t1, d1] leaves1, [t2, d2] leaves2, [v, tt, dd, c] => [t, d] leaves)
 }
 
 pub fn verify_fresh(
-    p: [u64; 5], t1: &[u64], d1: &[i64], t2: &[u64], d2: &[i64], v: &[i64], tt: &[u64], dd: &[i64], c: &[u8],
-    t: &mut [u64], d: &mut [i64],
+    p: [u64; 5], t1: &[u64], d1: &[i64], leaves1: u32, t2: &[u64], d2: &[i64], leaves2: u32, v: &[i64],
+    tt: &[u64], dd: &[i64], c: &[u8], t: &mut [u64], d: &mut [i64], leaves: &mut u32,
 ) -> u8 {
-    call!(lova_verify_fresh, p, [t1, d1, t2, d2, v, tt, dd, c], [t, d])
+    call!(lova_verify_fresh, p, [t1, d1] leaves1, [t2, d2] leaves2, [v, tt, dd, c] => [t, d] leaves)
 }
 
 pub fn test_relation(p: [u64; 5], a: &[u64], t: &[u64], d: &[i64], s: &[i64]) -> u8 {
-    call!(lova_test_relation, p, [a, t, d, s], [])
+    call!(lova_test_relation, p, [a, t, d, s] => [])
 }

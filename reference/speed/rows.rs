@@ -14,18 +14,19 @@ pub struct Row {
     pub general: Option<f64>,
 }
 
-/// What a call writes: its code, a matrix of words and up to three of whole numbers.
+/// What a call writes: its code, a matrix of words and up to three of whole numbers, and a number of leaves.
 #[derive(Clone, Debug, Default, PartialEq)]
 struct Out {
     code: u8,
     words: Vec<u64>,
     whole: [Vec<i64>; 3],
+    leaves: u32,
 }
 
 impl Out {
     /// Outputs of these lengths.
     fn of(words: usize, whole: [usize; 3]) -> Out {
-        Out { code: 0, words: vec![0; words], whole: whole.map(|length| vec![0; length]) }
+        Out { words: vec![0; words], whole: whole.map(|length| vec![0; length]), ..Out::default() }
     }
 }
 
@@ -107,7 +108,7 @@ fn parts(z: &Case) -> [Work; 5] {
     ]
 }
 
-/// The six operations.
+/// The six operations; both instances are leaves.
 fn operations(z: &Case) -> [Work; 6] {
     let instance = || Out::of(z.n * z.t, [z.t * z.t, 0, 0]);
     let sent = Out::of(z.n * z.columns, [z.t * z.t, plain::triangle(z.columns), z.m * z.columns]);
@@ -117,14 +118,16 @@ fn operations(z: &Case) -> [Work; 6] {
     });
     let verify = variants!(m, z, o, {
         let (t, d) = (&mut o.words, &mut o.whole[0]);
-        o.code = m::verify(z.p, &z.t1, &z.d1, &z.t2, &z.d2, &z.v, &z.tt, &z.dd, &z.c, t, d)
+        o.code = m::verify(z.p, &z.t1, &z.d1, 1, &z.t2, &z.d2, 1, &z.v, &z.tt, &z.dd, &z.c, t, d, &mut o.leaves)
     });
     let fold = variants!(m, z, o, o.code = m::fold_witness(z.p, &z.ss, &z.c, &mut o.whole[0]));
-    let commit = variants!(m, z, o, o.code = m::commit(z.p, &z.a, &z.s1, &mut o.words, &mut o.whole[0]));
+    let commit = variants!(m, z, o, {
+        o.code = m::commit(z.p, &z.a, &z.s1, &mut o.words, &mut o.whole[0], &mut o.leaves)
+    });
     let test = variants!(m, z, o, o.code = m::test_relation(z.p, &z.a, &z.t1, &z.d1, &z.s1));
     let join = variants!(m, z, o, {
         let (t, d) = (&mut o.words, &mut o.whole[0]);
-        o.code = m::join(z.p, &z.t1, &z.d1, &z.t2, &z.d2, &z.v, t, d)
+        o.code = m::join(z.p, &z.t1, &z.d1, 1, &z.t2, &z.d2, 1, &z.v, t, d, &mut o.leaves)
     });
     [
         Work { name: "message", out: sent, calls: message },
@@ -148,15 +151,15 @@ fn fresh_operations(z: &Case) -> [Work; 5] {
     });
     let verify = variants!(m, z, o, {
         let (x, t, d) = (&z.fresh, &mut o.words, &mut o.whole[0]);
-        o.code = m::verify_fresh(z.p, &z.t1, &z.d1, &x.t2, &x.d2, &x.v, &x.tt, &x.dd, &z.c, t, d)
+        o.code = m::verify_fresh(z.p, &z.t1, &z.d1, 1, &x.t2, &x.d2, 1, &x.v, &x.tt, &x.dd, &z.c, t, d, &mut o.leaves)
     });
     let fold = variants!(m, z, o, o.code = m::fold_witness_fresh(z.p, &z.fresh.ss, &z.c, &mut o.whole[0]));
     let commit = variants!(m, z, o, {
-        o.code = m::commit_fresh(z.p, &z.a, &z.fresh.vector, &mut o.words, &mut o.whole[0])
+        o.code = m::commit_fresh(z.p, &z.a, &z.fresh.vector, &mut o.words, &mut o.whole[0], &mut o.leaves)
     });
     let join = variants!(m, z, o, {
         let (x, t, d) = (&z.fresh, &mut o.words, &mut o.whole[0]);
-        o.code = m::join_fresh(z.p, &z.t1, &z.d1, &x.t2, &x.d2, &x.v, t, d)
+        o.code = m::join_fresh(z.p, &z.t1, &z.d1, 1, &x.t2, &x.d2, 1, &x.v, t, d, &mut o.leaves)
     });
     let sent = Out::of(z.n * columns, [z.t, plain::triangle(columns), z.m * columns]);
     [

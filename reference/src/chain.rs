@@ -24,6 +24,8 @@ struct Run {
     due: Due,
     p: Parameters,
     a: Vec<u64>,
+    /// The count that the accumulated node starts with in the place of commit's.
+    given_count: Option<u32>,
     accumulated: Node,
     newest: Node,
     leaves: u64,
@@ -69,6 +71,11 @@ fn numbers<T>(fields: &[&[u8]], count: u64, read: fn(&[u8]) -> Option<T>) -> Res
 /// The fields of an output line as text.
 fn texts<T: ToString>(entries: &[T]) -> Vec<String> {
     entries.iter().map(T::to_string).collect()
+}
+
+/// The fields of an instance: T, D and the number of leaves under it.
+fn instance_texts(node: &Node) -> Vec<String> {
+    [texts(&node.t), texts(&node.d), texts(&[node.leaves])].concat()
 }
 
 impl Run {
@@ -119,9 +126,10 @@ impl Run {
         let node = leaf(&self.p, Profile::General, &self.a, &s)?;
         self.leaves += 1;
         let head = vec!["leaf".to_string(), self.leaves.to_string()];
-        self.print(&[head, texts(&node.t), texts(&node.d)].concat());
+        self.print(&[head, instance_texts(&node)].concat());
         if self.due == Due::FirstLeaf {
-            self.accumulated = node;
+            let leaves = self.given_count.unwrap_or(node.leaves);
+            self.accumulated = Node { leaves, ..node };
             self.due = Due::Leaf;
         } else {
             self.newest = node;
@@ -130,13 +138,13 @@ impl Run {
         Ok(())
     }
 
-    /// Take a challenge: fold the accumulated node with the newest leaf and print the fold.
+    /// Take a challenge: 13, then 15; fold the accumulated node with the newest leaf and print the fold.
     fn challenge(&mut self, fields: &[&[u8]]) -> Result<(), u32> {
         let c = numbers(fields, self.p.columns() as u64 * self.p.t, challenge_byte)?;
         let (answer, node) = fold(&self.p, Profile::General, &self.a, &self.accumulated, &self.newest, &c)?;
         self.folds += 1;
         let head = vec!["fold".to_string(), self.folds.to_string(), answer.word()];
-        self.print(&[head, texts(&node.t), texts(&node.d)].concat());
+        self.print(&[head, instance_texts(&node)].concat());
         self.accumulated = node;
         self.due = Due::Leaf;
         Ok(())
@@ -154,9 +162,8 @@ impl Run {
     }
 }
 
-/// The output of the program for an input.
-pub fn run(input: &[u8]) -> Vec<u8> {
-    let mut run = Run::default();
+/// The output of a run from this state on an input.
+fn output(mut run: Run, input: &[u8]) -> Vec<u8> {
     let mut number = 0u64;
     for line in input.split_inclusive(|byte| *byte == b'\n') {
         number += 1;
@@ -173,4 +180,14 @@ pub fn run(input: &[u8]) -> Vec<u8> {
         run.print(&["refused".to_string(), (number + 1).to_string(), refused.to_string()]);
     }
     run.output
+}
+
+/// The output of the program for an input.
+pub fn run(input: &[u8]) -> Vec<u8> {
+    output(Run::default(), input)
+}
+
+/// The output where the accumulated node starts with this many leaves under it: an input with 2^32 leaves is too long.
+pub fn run_with_leaves(leaves: u32, input: &[u8]) -> Vec<u8> {
+    output(Run { given_count: Some(leaves), ..Run::default() }, input)
 }

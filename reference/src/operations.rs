@@ -6,10 +6,24 @@
 //!
 //! D~ is stored as its lower triangle by rows. The verdict goes by request 3's own sentence: that on a triangle is that
 //! on its mirrored square.
+//!
+//! An instance has the number of leaves under it beside T and D. A call that writes T and D writes this number as well; a
+//! verdict other than yes sets it to 0.
 
 use crate::digits::digit_matrix;
 use crate::matrices::*;
 use crate::settings::{above, refusal, shape, Parameters, Shape};
+
+/// The most leaves of a tree.
+pub const GREATEST_LEAVES: u64 = (1 << 32) - 1;
+
+/// A lent instance: T, D and the number of leaves under it.
+#[derive(Clone, Copy, Debug)]
+pub struct Instance<'a> {
+    pub t: &'a [u64],
+    pub d: &'a [i64],
+    pub leaves: u32,
+}
 
 /// What the second witness of a fold is: a matrix of t columns, or one vector.
 #[derive(Clone, Copy, Debug, PartialEq, Eq)]
@@ -38,7 +52,7 @@ impl Profile {
     }
 }
 
-/// What an operation answers; outputs are written on `Done` and `Yes` alone.
+/// What an operation answers; matrices are written on `Done` and `Yes` alone.
 #[derive(Clone, Copy, Debug, PartialEq, Eq)]
 pub enum Answer {
     Refused(u32),
@@ -80,25 +94,38 @@ fn misfit(lengths: &[(usize, usize)]) -> bool {
     lengths.iter().any(|(length, expected)| length != expected)
 }
 
+/// The lengths of two instances, each with the one that it must have.
+fn instance_lengths(z: &Shape, profile: Profile, one: Instance, two: Instance) -> [(usize, usize); 4] {
+    let (n, t, right) = (z.n, z.t, profile.right(z));
+    [(one.t.len(), n * t), (one.d.len(), t * t), (two.t.len(), n * right), (two.d.len(), right * right)]
+}
+
+/// The leaves under both instances, summed in whole numbers; nothing where a count is 0 or the sum is above the bound.
+fn leaves_under(one: Instance, two: Instance) -> Option<u32> {
+    let sum = u64::from(one.leaves) + u64::from(two.leaves);
+    (one.leaves > 0 && two.leaves > 0 && sum <= GREATEST_LEAVES).then_some(sum as u32)
+}
+
 /// Whether a column of S is above B.
 fn has_long_column(z: &Shape, s: &[i64]) -> bool {
     (0..z.t).any(|j| above(squared_length(s, z.m, z.t, j), z.bound as u128))
 }
 
 /// Joined T = [T1 T2] and D = [D1 V; V-transposed D2], with T2, D2 and V in the general form.
-fn joined(
-    z: &Shape, profile: Profile, t1: &[u64], d1: &[i64], t2: &[u64], d2: &[i64], v: &[i64],
-) -> (Vec<u64>, Vec<i64>) {
+fn joined(z: &Shape, profile: Profile, one: Instance, two: Instance, v: &[i64]) -> (Vec<u64>, Vec<i64>) {
     let (right, times) = (profile.right(z), profile.times(z));
-    let (t2, d2) = (repeated(t2, right, 0, times), repeated_square(d2, right, 0, times));
+    let (t2, d2) = (repeated(two.t, right, 0, times), repeated_square(two.d, right, 0, times));
     let v = repeated(v, right, 0, times);
-    let mut d = beside(d1, &v, z.t, z.t);
+    let mut d = beside(one.d, &v, z.t, z.t);
     d.extend(beside(&transposed(&v, z.t, z.t), &d2, z.t, z.t));
-    (beside(t1, &t2, z.n, z.t), d)
+    (beside(one.t, &t2, z.n, z.t), d)
 }
 
-/// Commit: A, S to T = AS modulo 2^64 and D = S-transposed S.
-pub fn commit(p: &Parameters, profile: Profile, a: &[u64], s: &[i64], t_out: &mut [u64], d_out: &mut [i64]) -> Answer {
+/// Commit: A, S to T = AS modulo 2^64, D = S-transposed S and one leaf.
+pub fn commit(
+    p: &Parameters, profile: Profile, a: &[u64], s: &[i64],
+    t_out: &mut [u64], d_out: &mut [i64], leaves_out: &mut u32,
+) -> Answer {
     let Ok(z) = shape(p) else { return Answer::Refused(refusal(p)) };
     let (n, m, t, right) = (z.n, z.m, z.t, profile.right(&z));
     if misfit(&[(a.len(), n * m), (s.len(), m * right), (t_out.len(), n * right), (d_out.len(), right * right)]) {
@@ -110,6 +137,7 @@ pub fn commit(p: &Parameters, profile: Profile, a: &[u64], s: &[i64], t_out: &mu
     }
     t_out.copy_from_slice(&cut(&wrapping_product(a, &wrapped(&s), n, m, t), t, right));
     d_out.copy_from_slice(&cut_square(&words(&inner_products(&s, &s, m, t)), t, right));
+    *leaves_out = 1;
     Answer::Done
 }
 
@@ -131,20 +159,22 @@ pub fn relation(p: &Parameters, a: &[u64], t_in: &[u64], d_in: &[i64], s: &[i64]
     }
 }
 
-/// Join: two instances and V to the joined T, n by 2t, and D, 2t by 2t.
+/// Join: two instances and V to the joined T, n by 2t, and D, 2t by 2t, and the sum of the leaves.
 pub fn join(
-    p: &Parameters, profile: Profile, t1: &[u64], d1: &[i64], t2: &[u64], d2: &[i64], v: &[i64],
-    t_out: &mut [u64], d_out: &mut [i64],
+    p: &Parameters, profile: Profile, one: Instance, two: Instance, v: &[i64],
+    t_out: &mut [u64], d_out: &mut [i64], leaves_out: &mut u32,
 ) -> Answer {
     let Ok(z) = shape(p) else { return Answer::Refused(refusal(p)) };
     let (n, t, right) = (z.n, z.t, profile.right(&z));
-    let instances = [(t1.len(), n * t), (d1.len(), t * t), (t2.len(), n * right), (d2.len(), right * right)];
-    if misfit(&instances) || misfit(&[(v.len(), t * right), (t_out.len(), 2 * n * t), (d_out.len(), 4 * t * t)]) {
+    let others = [(v.len(), t * right), (t_out.len(), 2 * n * t), (d_out.len(), 4 * t * t)];
+    if misfit(&instance_lengths(&z, profile, one, two)) || misfit(&others) {
         return Answer::Refused(7);
     }
-    let (joined_t, joined_d) = joined(&z, profile, t1, d1, t2, d2, v);
+    let Some(leaves) = leaves_under(one, two) else { return Answer::Refused(15) };
+    let (joined_t, joined_d) = joined(&z, profile, one, two, v);
     t_out.copy_from_slice(&joined_t);
     d_out.copy_from_slice(&joined_d);
+    *leaves_out = leaves;
     Answer::Done
 }
 
@@ -192,41 +222,43 @@ fn judged(z: &Shape, joined_t: &[u64], joined_d: &[i64], tt: &[u64], dd: &[i64])
     Answer::Yes
 }
 
-/// Verdict: both instances, V, T~, D~, C to an answer and, on yes, T' = T~ C and D' = C-transposed D~ C.
+/// Verdict: both instances, V, T~, D~, C to an answer and, on yes, T' = T~ C, D' = C-transposed D~ C and the sum of the
+/// leaves.
 pub fn verdict(
-    p: &Parameters, profile: Profile, t1: &[u64], d1: &[i64], t2: &[u64], d2: &[i64], v: &[i64],
-    tt: &[u64], dd: &[i64], c: &[u8], t_out: &mut [u64], d_out: &mut [i64],
+    p: &Parameters, profile: Profile, one: Instance, two: Instance, v: &[i64], tt: &[u64], dd: &[i64], c: &[u8],
+    t_out: &mut [u64], d_out: &mut [i64], leaves_out: &mut u32,
 ) -> Answer {
     let Ok(z) = shape(p) else { return Answer::Refused(refusal(p)) };
     let columns = profile.columns(&z);
     if dd.len() != triangle_length(columns) {
         return Answer::Refused(7);
     }
-    square_verdict(p, profile, t1, d1, t2, d2, v, tt, &mirrored(dd, columns), c, t_out, d_out)
+    square_verdict(p, profile, one, two, v, tt, &mirrored(dd, columns), c, t_out, d_out, leaves_out)
 }
 
 /// The verdict in the square form, in which all of D~ is lent; it need not be symmetric.
 pub fn square_verdict(
-    p: &Parameters, profile: Profile, t1: &[u64], d1: &[i64], t2: &[u64], d2: &[i64], v: &[i64],
-    tt: &[u64], dd: &[i64], c: &[u8], t_out: &mut [u64], d_out: &mut [i64],
+    p: &Parameters, profile: Profile, one: Instance, two: Instance, v: &[i64], tt: &[u64], dd: &[i64], c: &[u8],
+    t_out: &mut [u64], d_out: &mut [i64], leaves_out: &mut u32,
 ) -> Answer {
     let Ok(z) = shape(p) else { return Answer::Refused(refusal(p)) };
     let (n, t, right, columns) = (z.n, z.t, profile.right(&z), profile.columns(&z));
-    let instances = [(t1.len(), n * t), (d1.len(), t * t), (t2.len(), n * right), (d2.len(), right * right)];
     let message = [(v.len(), t * right), (tt.len(), n * columns), (dd.len(), columns * columns)];
     let others = [(c.len(), z.columns * t), (t_out.len(), n * t), (d_out.len(), t * t)];
-    if misfit(&instances) || misfit(&message) || misfit(&others) {
+    if misfit(&instance_lengths(&z, profile, one, two)) || misfit(&message) || misfit(&others) {
         return Answer::Refused(7);
     }
+    let Some(leaves) = leaves_under(one, two) else { return Answer::Refused(15) };
     let Some(c) = challenge_values(c) else { return Answer::Refused(9) };
     if dd.iter().any(|x| x.unsigned_abs() > z.product_limit) {
         return Answer::Refused(10);
     }
-    let (joined_t, joined_d) = joined(&z, profile, t1, d1, t2, d2, v);
+    let (joined_t, joined_d) = joined(&z, profile, one, two, v);
     // The digits of the second witness stand from column kt on.
     let tt = repeated(tt, columns, z.k * t, profile.times(&z));
     let dd = repeated_square(dd, columns, z.k * t, profile.times(&z));
     let answer = judged(&z, &joined_t, &joined_d, &tt, &dd);
+    *leaves_out = if answer == Answer::Yes { leaves } else { 0 };
     if answer == Answer::Yes {
         t_out.copy_from_slice(&wrapping_product(&tt, &wrapped(&c), n, z.columns, t));
         let right = product(&whole(&dd), &whole(&c), z.columns, z.columns, t);

@@ -14,12 +14,31 @@ pub enum Tree {
     FoldFresh(Box<Tree>, Vec<i64>, Vec<u8>),
 }
 
-/// An instance T, D with its witness S.
+impl Tree {
+    /// How many leaves the tree has.
+    pub fn leaves(&self) -> u64 {
+        match self {
+            Tree::Leaf(_) => 1,
+            Tree::Fold(left, right, _) => left.leaves() + right.leaves(),
+            Tree::FoldFresh(left, ..) => left.leaves() + 1,
+        }
+    }
+}
+
+/// An instance T, D with the number of leaves under it, and its witness S.
 #[derive(Clone, Debug, Default, PartialEq, Eq)]
 pub struct Node {
     pub t: Vec<u64>,
     pub d: Vec<i64>,
+    pub leaves: u32,
     pub s: Vec<i64>,
+}
+
+impl Node {
+    /// The instance, as it is lent to a call.
+    pub fn instance(&self) -> Instance<'_> {
+        Instance { t: &self.t, d: &self.d, leaves: self.leaves }
+    }
 }
 
 /// The prover's message V, T~, D~, a lower triangle, and the digits S~ that the prover keeps.
@@ -66,8 +85,9 @@ pub fn leaf(p: &Parameters, profile: Profile, a: &[u64], s: &[i64]) -> Result<No
     let right = profile.right(&z);
     let mut t = vec![HELD as u64; z.n * right];
     let mut d = vec![HELD; right * right];
-    accepted(commit(p, profile, a, s, &mut t, &mut d))?;
-    Ok(Node { t, d, s: s.to_vec() })
+    let mut leaves = HELD as u32;
+    accepted(commit(p, profile, a, s, &mut t, &mut d, &mut leaves))?;
+    Ok(Node { t, d, leaves, s: s.to_vec() })
 }
 
 /// The honest message for two witnesses.
@@ -90,15 +110,17 @@ pub fn fold(
     let sent = honest_message(p, profile, a, &left.s, &right.s)?;
     let mut joined_t = vec![HELD as u64; 2 * z.n * z.t];
     let mut joined_d = vec![HELD; 4 * z.t * z.t];
-    accepted(join(p, profile, &left.t, &left.d, &right.t, &right.d, &sent.v, &mut joined_t, &mut joined_d))?;
+    let mut joined_leaves = HELD as u32;
+    let (one, two) = (left.instance(), right.instance());
+    accepted(join(p, profile, one, two, &sent.v, &mut joined_t, &mut joined_d, &mut joined_leaves))?;
     let mut t = vec![HELD as u64; z.n * z.t];
     let mut d = vec![HELD; z.t * z.t];
-    let answer =
-        verdict(p, profile, &left.t, &left.d, &right.t, &right.d, &sent.v, &sent.tt, &sent.dd, c, &mut t, &mut d);
+    let mut leaves = HELD as u32;
+    let answer = verdict(p, profile, one, two, &sent.v, &sent.tt, &sent.dd, c, &mut t, &mut d, &mut leaves);
     let answer = accepted(answer)?;
     let mut s = vec![HELD; z.m * z.t];
     accepted(folded_witness(p, profile, &sent.ss, c, &mut s))?;
-    Ok((answer, Node { t, d, s }))
+    Ok((answer, Node { t, d, leaves, s }))
 }
 
 /// The honest tree: every verdict, folds from the leaves up and left before right, and the root.

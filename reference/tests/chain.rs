@@ -2,7 +2,7 @@
 
 mod common;
 use common::*;
-use reference::chain::run;
+use reference::chain::{run, run_with_leaves};
 use reference::rng::Rng;
 use reference::settings::{Parameters, LIST};
 use reference::tree::{honest, plain, Tree};
@@ -18,19 +18,21 @@ fn output(input: &str) -> String {
 #[test]
 fn printed_example() {
     let input = "param\t1\t1\t1\t2\t100\na\t3\nleaf\t7\nleaf\t-5\nc\t1\t1\t1\t0\t0\t-1\t0\t-1\t0\t0\n";
-    let expected = "leaf\t1\t21\t49\nleaf\t2\t18446744073709551601\t25\nfold\t1\tyes\t15\t25\nend\t1\tmember\n";
+    let expected =
+        "leaf\t1\t21\t49\t1\nleaf\t2\t18446744073709551601\t25\t1\nfold\t1\tyes\t15\t25\t2\nend\t1\tmember\n";
     assert_eq!(run(input.as_bytes()), expected.as_bytes());
 }
 
 #[test]
 fn one_leaf() {
-    assert_eq!(output(&format!("{HEAD}leaf\t7\n")), "leaf\t1\t21\t49\nend\t0\tmember\n");
+    assert_eq!(output(&format!("{HEAD}leaf\t7\n")), "leaf\t1\t21\t49\t1\nend\t0\tmember\n");
 }
 
 #[test]
 fn zero_challenge() {
     let input = format!("{HEAD}leaf\t7\nleaf\t-5\nc{}\n", "\t0".repeat(10));
-    let expected = "leaf\t1\t21\t49\nleaf\t2\t18446744073709551601\t25\nfold\t1\tyes\t0\t0\nend\t1\tmember\n";
+    let expected =
+        "leaf\t1\t21\t49\t1\nleaf\t2\t18446744073709551601\t25\t1\nfold\t1\tyes\t0\t0\t2\nend\t1\tmember\n";
     assert_eq!(output(&input), expected);
 }
 
@@ -40,7 +42,7 @@ fn missing_lines() {
     assert_eq!(output("param\t1\t1\t1\t2\t100\n"), "refused\t2\t13\n");
     assert_eq!(output(HEAD), "refused\t3\t13\n");
     let input = format!("{HEAD}leaf\t7\nleaf\t-5\n");
-    assert_eq!(output(&input), "leaf\t1\t21\t49\nleaf\t2\t18446744073709551601\t25\nrefused\t5\t13\n");
+    assert_eq!(output(&input), "leaf\t1\t21\t49\t1\nleaf\t2\t18446744073709551601\t25\t1\nrefused\t5\t13\n");
 }
 
 #[test]
@@ -49,7 +51,7 @@ fn unterminated_lines() {
     assert_eq!(output("param\t1\t1\t1\t2\t99"), "refused\t1\t13\n");
     assert_eq!(output(&format!("{HEAD}leaf\t7")), "refused\t3\t13\n");
     assert_eq!(output(&format!("{HEAD}leaf\t11")), "refused\t3\t13\n");
-    assert_eq!(output(&format!("{HEAD}leaf\t7\nx")), "leaf\t1\t21\t49\nrefused\t4\t13\n");
+    assert_eq!(output(&format!("{HEAD}leaf\t7\nx")), "leaf\t1\t21\t49\t1\nrefused\t4\t13\n");
     assert_eq!(output(&"x".repeat(4096)), "refused\t1\t13\n");
     assert_eq!(output(&"x".repeat(10000)), "refused\t1\t13\n");
 }
@@ -59,7 +61,7 @@ fn long_lines() {
     for length in [4094, 4095, 4096, 4097, 20000] {
         assert_eq!(output(&format!("{}\nparam\t1\t1\t1\t2\t100\n", "x".repeat(length))), "refused\t1\t13\n");
         let input = format!("{HEAD}leaf\t7\n{}\n", "7".repeat(length));
-        assert_eq!(output(&input), "leaf\t1\t21\t49\nrefused\t4\t13\n");
+        assert_eq!(output(&input), "leaf\t1\t21\t49\t1\nrefused\t4\t13\n");
     }
 }
 
@@ -119,12 +121,12 @@ fn words_and_order_of_lines() {
     ];
     for leaf in bad_leaves {
         assert_eq!(output(&format!("{HEAD}{leaf}\n{leaf}\n")), "refused\t3\t13\n", "{leaf:?}");
-        assert_eq!(output(&format!("{HEAD}leaf\t7\n{leaf}\n{C}")), "leaf\t1\t21\t49\nrefused\t4\t13\n", "{leaf:?}");
+        assert_eq!(output(&format!("{HEAD}leaf\t7\n{leaf}\n{C}")), "leaf\t1\t21\t49\t1\nrefused\t4\t13\n", "{leaf:?}");
         let chain = format!("{HEAD}leaf\t7\nleaf\t-5\n{C}");
-        let so_far = "leaf\t1\t21\t49\nleaf\t2\t18446744073709551601\t25\nfold\t1\tyes\t15\t25\n";
+        let so_far = "leaf\t1\t21\t49\t1\nleaf\t2\t18446744073709551601\t25\t1\nfold\t1\tyes\t15\t25\t2\n";
         assert_eq!(output(&format!("{chain}{leaf}\n")), format!("{so_far}refused\t6\t13\n"), "{leaf:?}");
     }
-    let so_far = "leaf\t1\t21\t49\nleaf\t2\t18446744073709551601\t25\n";
+    let so_far = "leaf\t1\t21\t49\t1\nleaf\t2\t18446744073709551601\t25\t1\n";
     for c in [
         "c", "c\t0", "c\t0\t0\t0\t0\t0\t0\t0\t0\t0", "c\t0\t0\t0\t0\t0\t0\t0\t0\t0\t0\t0", "c\t2\t0\t0\t0\t0\t0\t0\t0\t0\t0",
         "c\t0\t0\t0\t0\t0\t0\t0\t0\t0\t3", "c\t01\t0\t0\t0\t0\t0\t0\t0\t0\t0", "c\t-0\t0\t0\t0\t0\t0\t0\t0\t0\t0",
@@ -133,9 +135,9 @@ fn words_and_order_of_lines() {
     ] {
         assert_eq!(output(&format!("{HEAD}leaf\t7\nleaf\t-5\n{c}\n")), format!("{so_far}refused\t5\t13\n"), "{c:?}");
     }
-    assert_eq!(output(&format!("{HEAD}leaf\t7\n{C}")), "leaf\t1\t21\t49\nrefused\t4\t13\n");
+    assert_eq!(output(&format!("{HEAD}leaf\t7\n{C}")), "leaf\t1\t21\t49\t1\nrefused\t4\t13\n");
     let twice = format!("{HEAD}leaf\t7\nleaf\t-5\n{C}{C}");
-    assert_eq!(output(&twice), format!("{so_far}fold\t1\tyes\t15\t25\nrefused\t6\t13\n"));
+    assert_eq!(output(&twice), format!("{so_far}fold\t1\tyes\t15\t25\t2\nrefused\t6\t13\n"));
 }
 
 #[test]
@@ -152,14 +154,30 @@ fn witnesses_too_long() {
         assert_eq!(output(&format!("{HEAD}leaf\t{s}\n")), "refused\t3\t8\n");
         // A second leaf is 8 at its own line, whatever follows.
         for rest in ["", "x\n", C, "leaf\t7\n", "c"] {
-            assert_eq!(output(&format!("{HEAD}leaf\t7\nleaf\t{s}\n{rest}")), "leaf\t1\t21\t49\nrefused\t4\t8\n");
+            assert_eq!(output(&format!("{HEAD}leaf\t7\nleaf\t{s}\n{rest}")), "leaf\t1\t21\t49\t1\nrefused\t4\t8\n");
         }
     }
     // A bad number in the line comes before its length.
     let head = "param\t1\t2\t1\t3\t72\na\t1\t1\n";
     assert_eq!(output(&format!("{head}leaf\t100\t007\n")), "refused\t3\t13\n");
-    assert_eq!(output(&format!("{head}leaf\t6\t6\n")), "leaf\t1\t12\t72\nend\t0\tmember\n");
+    assert_eq!(output(&format!("{head}leaf\t6\t6\n")), "leaf\t1\t12\t72\t1\nend\t0\tmember\n");
     assert_eq!(output(&format!("{head}leaf\t6\t7\n")), "refused\t3\t8\n");
+}
+
+#[test]
+fn no_more_leaves_than_there_may_be() {
+    let input = format!("{HEAD}leaf\t7\nleaf\t-5\n{C}leaf\t1\n{C}");
+    let with = |leaves: u32, input: &str| String::from_utf8(run_with_leaves(leaves, input.as_bytes())).unwrap();
+    assert_eq!(with(1, &input), output(&input));
+    let two = "leaf\t1\t21\t49\t1\nleaf\t2\t18446744073709551601\t25\t1\n";
+    // One leaf more is the most that there may be; the next one is refused.
+    let most = format!("{two}fold\t1\tyes\t15\t25\t4294967295\nleaf\t3\t3\t1\t1\nrefused\t7\t15\n");
+    assert_eq!(with(u32::MAX - 1, &input), most);
+    assert_eq!(with(u32::MAX, &input), format!("{two}refused\t5\t15\n"));
+    assert_eq!(with(0, &input), format!("{two}refused\t5\t15\n"));
+    // A bad line comes first, and the end asks for no count.
+    assert_eq!(with(u32::MAX, &input.replace("c\t1", "c\t2")), format!("{two}refused\t5\t13\n"));
+    assert_eq!(with(u32::MAX, &format!("{HEAD}leaf\t7\n")), "leaf\t1\t21\t49\t1\nend\t0\tmember\n");
 }
 
 /// A line from a word and entries.
@@ -182,7 +200,7 @@ fn random_chain(rng: &mut Rng, p: &Parameters, pairs: usize) -> (String, String)
         let s = rng.witness(p.m as usize, p.t as usize, p.bound);
         input += &line("leaf", &texts(&s));
         let (_, node) = honest(p, &a, &Tree::Leaf(s.clone())).unwrap();
-        out += &line("leaf", &[texts(&[number + 1]), texts(&node.t), texts(&node.d)].concat());
+        out += &line("leaf", &[texts(&[number + 1]), texts(&node.t), texts(&node.d), texts(&[1])].concat());
         tree = Some(match tree {
             None => Tree::Leaf(s),
             Some(sofar) => {
@@ -191,7 +209,8 @@ fn random_chain(rng: &mut Rng, p: &Parameters, pairs: usize) -> (String, String)
                 let tree = Tree::Fold(Box::new(sofar), Box::new(Tree::Leaf(s)), c);
                 let (_, node) = honest(p, &a, &tree).unwrap();
                 assert_eq!(Some(node.s), plain(p, &tree));
-                out += &line("fold", &[texts(&[number]), vec!["yes".into()], texts(&node.t), texts(&node.d)].concat());
+                let (head, leaves) = (vec![number.to_string(), "yes".into()], texts(&[tree.leaves()]));
+                out += &line("fold", &[head, texts(&node.t), texts(&node.d), leaves].concat());
                 tree
             }
         });

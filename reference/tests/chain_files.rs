@@ -4,30 +4,30 @@ use reference::chain::run;
 use reference::chain_files::{all, args, stdout, subjects, ChainFile};
 
 // What the small chain prints, worked out by hand; 2^64 − 12, − 15 and − 1 stand in full.
-const L1: &str = "leaf\t1\t18446744073709551604\t48\t72\n";
-const L2: &str = "leaf\t2\t37\t18446744073709551601\t65\n";
-const F1: &str = "fold\t1\tyes\t18446744073709551615\t23\t13\n";
-const L3: &str = "leaf\t3\t21\t11\t13\n";
-const F2: &str = "fold\t2\tyes\t14\t20\t10\n";
+const L1: &str = "leaf\t1\t18446744073709551604\t48\t72\t1\n";
+const L2: &str = "leaf\t2\t37\t18446744073709551601\t65\t1\n";
+const F1: &str = "fold\t1\tyes\t18446744073709551615\t23\t13\t2\n";
+const L3: &str = "leaf\t3\t21\t11\t13\t1\n";
+const F2: &str = "fold\t2\tyes\t14\t20\t10\t3\n";
 
 /// Whole outputs written by hand from document 01: names with the parts of the output.
 const BY_HAND: [(&str, &[&str]); 36] = [
     (
         "printed_example",
-        &["leaf\t1\t21\t49\nleaf\t2\t18446744073709551601\t25\nfold\t1\tyes\t15\t25\nend\t1\tmember\n"],
+        &["leaf\t1\t21\t49\t1\nleaf\t2\t18446744073709551601\t25\t1\nfold\t1\tyes\t15\t25\t2\nend\t1\tmember\n"],
     ),
-    ("one_leaf", &["leaf\t1\t21\t49\nend\t0\tmember\n"]),
+    ("one_leaf", &["leaf\t1\t21\t49\t1\nend\t0\tmember\n"]),
     ("small_chain_two_folds", &[L1, L2, F1, L3, F2, "end\t2\tmember\n"]),
-    ("a_two_63_times_two_wraps_to_zero", &["leaf\t1\t0\t4\nend\t0\tmember\n"]),
+    ("a_two_63_times_two_wraps_to_zero", &["leaf\t1\t0\t4\t1\nend\t0\tmember\n"]),
     (
         "a_numbers_at_their_borders",
-        &["leaf\t1\t1\t9223372036854775808\t9223372036854775809\t0\t1\nend\t0\tmember\n"],
+        &["leaf\t1\t1\t9223372036854775808\t9223372036854775809\t0\t1\t1\nend\t0\tmember\n"],
     ),
     (
         "leaves_at_the_border",
-        &["leaf\t1\t10\t100\nleaf\t2\t18446744073709551606\t100\nfold\t1\tyes\t0\t0\nend\t1\tmember\n"],
+        &["leaf\t1\t10\t100\t1\nleaf\t2\t18446744073709551606\t100\t1\nfold\t1\tyes\t0\t0\t2\nend\t1\tmember\n"],
     ),
-    ("growth_is_reached", &["leaf\t1\t25\t25\nleaf\t2\t25\t25\nfold\t1\tyes\t30\t36\nend\t1\tmember\n"]),
+    ("growth_is_reached", &["leaf\t1\t25\t25\t1\nleaf\t2\t25\t25\t1\nfold\t1\tyes\t30\t36\t2\nend\t1\tmember\n"]),
     ("param_m_zero_1", &["refused\t1\t1\n"]),
     ("param_b_65536_2", &["refused\t1\t2\n"]),
     ("param_bound_two_62_and_one_3", &["refused\t1\t3\n"]),
@@ -186,6 +186,6 @@ fn written_form() {
     let files = vec![all()[0].clone(), all()[1].clone()];
     assert_eq!(args(&files), b"printed_example\none_leaf\n");
     let text = String::from_utf8(stdout(&files)).unwrap();
-    assert!(text.starts_with("== printed_example\nleaf\t1\t21\t49\n"));
-    assert!(text.ends_with("end\t1\tmember\n== one_leaf\nleaf\t1\t21\t49\nend\t0\tmember\n"));
+    assert!(text.starts_with("== printed_example\nleaf\t1\t21\t49\t1\n"));
+    assert!(text.ends_with("end\t1\tmember\n== one_leaf\nleaf\t1\t21\t49\t1\nend\t0\tmember\n"));
 }

@@ -33,7 +33,7 @@ fn general_leaf(z: &Shape, node: &Node) -> Node {
     let column = |rows: usize| (0..rows).flat_map(|i| vec![i; z.t]).collect::<Vec<usize>>();
     let t = column(z.n).into_iter().map(|i| node.t[i]).collect();
     let s = column(z.m).into_iter().map(|i| node.s[i]).collect();
-    Node { t, d: vec![node.d[0]; z.t * z.t], s }
+    Node { t, d: vec![node.d[0]; z.t * z.t], leaves: node.leaves, s }
 }
 
 /// A fresh message in the general form.
@@ -48,21 +48,21 @@ fn general_message(z: &Shape, sent: &Message) -> Message {
     }
 }
 
-/// The verdict's answer with what T' and D' hold afterwards; both held 99.
+/// The verdict's answer with what T', D' and the count hold afterwards; all held 99.
 fn judge(
     p: &Parameters, profile: Profile, left: &Node, right: &Node, sent: &Message, c: &[u8],
-) -> (Answer, Vec<u64>, Vec<i64>) {
-    let (mut t, mut d) = (vec![99; left.t.len()], vec![99; left.d.len()]);
-    let answer =
-        verdict(p, profile, &left.t, &left.d, &right.t, &right.d, &sent.v, &sent.tt, &sent.dd, c, &mut t, &mut d);
-    (answer, t, d)
+) -> (Answer, Vec<u64>, Vec<i64>, u32) {
+    let (mut t, mut d, mut leaves) = (vec![99; left.t.len()], vec![99; left.d.len()], 99);
+    let (one, two) = (left.instance(), right.instance());
+    let answer = verdict(p, profile, one, two, &sent.v, &sent.tt, &sent.dd, c, &mut t, &mut d, &mut leaves);
+    (answer, t, d, leaves)
 }
 
-/// Join's answer with what the joined T and D hold afterwards.
-fn joined(p: &Parameters, profile: Profile, left: &Node, right: &Node, v: &[i64]) -> (Answer, Vec<u64>, Vec<i64>) {
-    let (mut t, mut d) = (vec![99; 2 * left.t.len()], vec![99; 4 * left.d.len()]);
-    let answer = join(p, profile, &left.t, &left.d, &right.t, &right.d, v, &mut t, &mut d);
-    (answer, t, d)
+/// Join's answer with what the joined T, D and count hold afterwards.
+fn joined(p: &Parameters, profile: Profile, left: &Node, right: &Node, v: &[i64]) -> (Answer, Vec<u64>, Vec<i64>, u32) {
+    let (mut t, mut d, mut leaves) = (vec![99; 2 * left.t.len()], vec![99; 4 * left.d.len()], 99);
+    let answer = join(p, profile, left.instance(), right.instance(), v, &mut t, &mut d, &mut leaves);
+    (answer, t, d, leaves)
 }
 
 /// The folded witness's answer with what S' holds afterwards.
@@ -115,8 +115,8 @@ fn a_fold_by_hand() {
     assert_eq!(sent.dd, dd.collect::<Vec<i64>>());
     let t = vec![21, 15u64.wrapping_neg(), 12, 12];
     let d = vec![49, -35, 28, 28, -35, 25, -20, -20, 28, -20, 16, 16, 28, -20, 16, 16];
-    assert_eq!(joined(&SMALL, Fresh, &left, &right, &sent.v), (Done, t, d));
-    assert_eq!(judge(&SMALL, Fresh, &left, &right, &sent, &C), (Yes, vec![3, 9], vec![1, 3, 3, 9]));
+    assert_eq!(joined(&SMALL, Fresh, &left, &right, &sent.v), (Done, t, d, 2));
+    assert_eq!(judge(&SMALL, Fresh, &left, &right, &sent, &C), (Yes, vec![3, 9], vec![1, 3, 3, 9], 2));
     assert_eq!(folded(&SMALL, Fresh, &sent.ss, &C), (Done, vec![1, 3]));
 }
 
@@ -183,11 +183,11 @@ fn any<'a, T>(rng: &mut Rng, entries: &'a mut [T]) -> &'a mut T {
     &mut entries[at]
 }
 
-/// Change one entry of what a fresh verdict and folded witness read.
+/// Change one entry of what a fresh verdict and folded witness read, or a count.
 fn damage(rng: &mut Rng, p: &Parameters, left: &mut Node, right: &mut Node, sent: &mut Message, c: &mut [u8]) {
     let bound = p.bound as i64;
     let (diagonal, bit) = (*any(rng, &mut [bound, bound + 1, i64::MIN]), rng.word() % 64);
-    match rng.word() % 9 {
+    match rng.word() % 10 {
         0 => *any(rng, &mut sent.dd) += 1,
         1 => *any(rng, &mut sent.dd) = p.product_limit().unwrap() as i64 + 1,
         2 => *any(rng, &mut sent.tt) ^= 1 << bit,
@@ -196,6 +196,7 @@ fn damage(rng: &mut Rng, p: &Parameters, left: &mut Node, right: &mut Node, sent
         5 => left.d[0] = diagonal,
         6 => *any(rng, &mut right.t) ^= 1 << bit,
         7 => *any(rng, c) = 3,
+        8 => left.leaves = *any(rng, &mut [0, u32::MAX - 1, u32::MAX]),
         _ => *any(rng, &mut sent.ss) = -(p.h() as i64) - 1,
     }
 }
@@ -234,7 +235,7 @@ fn every_outcome_is_the_general_one() {
         let base = if p.b.is_multiple_of(2) { "b even" } else { "b odd" };
         seen.extend(in_both_profiles(&mut rng, p, round % 4 != 0).map(|word| format!("{word}, {columns}, {base}")));
     }
-    for word in ["yes", "long", "norm", "commitment", "refused(9)", "refused(10)", "done", "refused(11)"] {
+    for word in ["yes", "long", "norm", "commitment", "refused(15)", "refused(9)", "refused(10)", "done", "refused(11)"] {
         for kind in ["t = 1, b even", "t = 1, b odd", "t > 1, b even", "t > 1, b odd"] {
             assert!(seen.contains(&format!("{word}, {kind}")), "no {word}, {kind}: {seen:?}");
         }
@@ -273,11 +274,11 @@ fn the_general_lengths_are_7() {
     let (left, right, sent) = small();
     let z = shape(&SMALL).unwrap();
     let (other, message) = (general_leaf(&z, &right), general_message(&z, &sent));
-    let (mut t, mut d) = (vec![99; 2], vec![99; 4]);
-    assert_eq!(commit(&SMALL, Fresh, &[3], &other.s, &mut t, &mut d), Refused(7));
-    assert_eq!(commit(&SMALL, Fresh, &[3], &right.s, &mut t, &mut d), Refused(7));
-    assert_eq!(commit(&SMALL, Fresh, &[3], &right.s, &mut t[..1], &mut d), Refused(7));
-    assert_eq!((t, d), (vec![99; 2], vec![99; 4]));
+    let (mut t, mut d, mut leaves) = (vec![99; 2], vec![99; 4], 99);
+    assert_eq!(commit(&SMALL, Fresh, &[3], &other.s, &mut t, &mut d, &mut leaves), Refused(7));
+    assert_eq!(commit(&SMALL, Fresh, &[3], &right.s, &mut t, &mut d, &mut leaves), Refused(7));
+    assert_eq!(commit(&SMALL, Fresh, &[3], &right.s, &mut t[..1], &mut d, &mut leaves), Refused(7));
+    assert_eq!((t, d, leaves), (vec![99; 2], vec![99; 4], 99));
     assert_eq!(honest_message(&SMALL, Fresh, &[3], &left.s, &other.s), Err(7));
     for right in [&Node { t: other.t.clone(), ..right.clone() }, &Node { d: other.d.clone(), ..right.clone() }] {
         assert_eq!(joined(&SMALL, Fresh, &left, right, &sent.v).0, Refused(7));

@@ -25,8 +25,8 @@ fn example() -> (Node, Node, Message) {
 fn judge(p: &Parameters, left: &Node, right: &Node, sent: &Message, c: &[u8]) -> (Answer, Vec<u64>, Vec<i64>) {
     let mut t = vec![123; left.t.len()];
     let mut d = vec![-123; left.d.len()];
-    let answer =
-        verdict(p, General, &left.t, &left.d, &right.t, &right.d, &sent.v, &sent.tt, &sent.dd, c, &mut t, &mut d);
+    let (one, two) = (left.instance(), right.instance());
+    let answer = verdict(p, General, one, two, &sent.v, &sent.tt, &sent.dd, c, &mut t, &mut d, &mut 0);
     if answer != Yes {
         assert!(t.iter().all(|x| *x == 123) && d.iter().all(|x| *x == -123), "outputs keep what they held");
     }
@@ -38,7 +38,7 @@ fn commit_points() {
     assert_eq!(leaf(&ONE, General, &[3], &[10]).unwrap().d, [100]);
     for s in [11, -11, i64::MIN, i64::MAX, 1 << 32, -(1 << 32)] {
         let (mut t, mut d) = ([5], [6]);
-        assert_eq!(commit(&ONE, General, &[3], &[s], &mut t, &mut d), Refused(8));
+        assert_eq!(commit(&ONE, General, &[3], &[s], &mut t, &mut d, &mut 0), Refused(8));
         assert_eq!((t, d), ([5], [6]));
     }
     let node = leaf(&ONE, General, &[1 << 63], &[2]).unwrap();
@@ -75,7 +75,7 @@ fn example_fold_in_full() {
         }
     }
     let (mut t, mut d) = ([0; 2], [0; 4]);
-    assert_eq!(join(&ONE, General, &left.t, &left.d, &right.t, &right.d, &sent.v, &mut t, &mut d), Done);
+    assert_eq!(join(&ONE, General, left.instance(), right.instance(), &sent.v, &mut t, &mut d, &mut 0), Done);
     assert_eq!((t, d), ([21, 15u64.wrapping_neg()], [49, -35, -35, 25]));
     assert_eq!(judge(&ONE, &left, &right, &sent, &C), (Yes, vec![15], vec![25]));
     let mut s = [0];
@@ -179,7 +179,7 @@ fn every_wrong_length_is_7_and_writes_nothing() {
             let signed = |at: usize, length: usize| vec![9i64; l(at, length)];
 
             let (mut t_out, mut d_out) = (words(2, n * right), signed(3, right * right));
-            let answer = commit(&p, profile, &words(0, n * m), &signed(1, m * right), &mut t_out, &mut d_out);
+            let answer = commit(&p, profile, &words(0, n * m), &signed(1, m * right), &mut t_out, &mut d_out, &mut 0);
             if position < 4 {
                 assert_eq!(answer, Refused(7));
                 assert!(t_out.iter().all(|x| *x == 9) && d_out.iter().all(|x| *x == 9));
@@ -192,7 +192,8 @@ fn every_wrong_length_is_7_and_writes_nothing() {
 
             let (mut t_out, mut d_out) = (words(5, 2 * n * t), vec![8i64; l(6, 4 * t * t)]);
             let (t1, d1, t2, d2) = (words(0, n * t), signed(1, t * t), words(2, n * right), signed(3, right * right));
-            let answer = join(&p, profile, &t1, &d1, &t2, &d2, &signed(4, t * right), &mut t_out, &mut d_out);
+            let (one, two) = (instance(&t1, &d1), instance(&t2, &d2));
+            let answer = join(&p, profile, one, two, &signed(4, t * right), &mut t_out, &mut d_out, &mut 0);
             if position < 7 {
                 assert_eq!(answer, Refused(7));
                 assert!(t_out.iter().all(|x| *x == 9) && d_out.iter().all(|x| *x == 8));
@@ -216,7 +217,8 @@ fn every_wrong_length_is_7_and_writes_nothing() {
             let (t1, d1, t2, d2) = (words(0, n * t), signed(1, t * t), words(2, n * right), signed(3, right * right));
             let (v, tt, dd) = (signed(4, t * right), words(5, n * wide), signed(6, wide * (wide + 1) / 2));
             let c = vec![1u8; l(7, columns * t)];
-            let answer = verdict(&p, profile, &t1, &d1, &t2, &d2, &v, &tt, &dd, &c, &mut t_out, &mut d_out);
+            let (one, two) = (instance(&t1, &d1), instance(&t2, &d2));
+            let answer = verdict(&p, profile, one, two, &v, &tt, &dd, &c, &mut t_out, &mut d_out, &mut 0);
             assert_eq!(answer, if position < 10 { Refused(7) } else { Norm });
             assert!(t_out.iter().all(|x| *x == 9) && d_out.iter().all(|x| *x == 9));
 
@@ -242,11 +244,13 @@ fn bad_settings_come_first_in_every_operation() {
     ];
     for ((number, p), profile) in bad.iter().flat_map(|bad| [(*bad, General), (*bad, Fresh)]) {
         let (mut t, mut d, mut v, mut s) = ([7u64; 3], [7i64; 3], [7i64; 3], [7i64; 3]);
-        assert_eq!(commit(&p, profile, &[1], &[11], &mut t, &mut d), Refused(number));
+        assert_eq!(commit(&p, profile, &[1], &[11], &mut t, &mut d, &mut 0), Refused(number));
         assert_eq!(relation(&p, &[1], &[1], &[1], &[11]), Refused(number));
-        assert_eq!(join(&p, profile, &[], &[], &[], &[], &[], &mut t, &mut d), Refused(number));
+        let none = Instance { t: &[], d: &[], leaves: 0 };
+        assert_eq!(join(&p, profile, none, none, &[], &mut t, &mut d, &mut 0), Refused(number));
         assert_eq!(message(&p, profile, &[], &[11], &[], &mut v, &mut t, &mut d, &mut s), Refused(number));
-        assert_eq!(verdict(&p, profile, &[], &[], &[], &[], &[], &[], &[9], &[3], &mut t, &mut d), Refused(number));
+        let answer = verdict(&p, profile, none, none, &[], &[], &[9], &[3], &mut t, &mut d, &mut 0);
+        assert_eq!(answer, Refused(number));
         assert_eq!(folded_witness(&p, profile, &[9], &[3], &mut s), Refused(number));
         assert_eq!((t, d, v, s), ([7; 3], [7; 3], [7; 3], [7; 3]));
     }
@@ -335,8 +339,8 @@ fn outcomes_by_their_sums() {
 fn join_puts_v_in_the_upper_right() {
     let p = setting(1, 1, 2, 5, 576);
     let (mut t, mut d) = ([0; 4], [0; 16]);
-    let answer = join(&p, General, &[1, 2], &[1, 2, 3, 4], &[3, 4], &[5, 6, 7, 8], &[11, 12, 13, 14], &mut t, &mut d);
-    assert_eq!(answer, Done);
+    let (one, two) = (instance(&[1, 2], &[1, 2, 3, 4]), instance(&[3, 4], &[5, 6, 7, 8]));
+    assert_eq!(join(&p, General, one, two, &[11, 12, 13, 14], &mut t, &mut d, &mut 0), Done);
     assert_eq!(t, [1, 2, 3, 4]);
     assert_eq!(d, [1, 2, 11, 12, 3, 4, 13, 14, 11, 13, 5, 6, 12, 14, 7, 8]);
 }
@@ -447,17 +451,17 @@ fn by_hand(v: i64, ss: [i64; 10]) -> Message {
 
 #[test]
 fn a_long_start_does_not_pass() {
-    let instance = |s: i64| Node { t: vec![(3 * s) as u64], d: vec![s * s], s: vec![s] };
+    let node = |s: i64| Node { t: vec![(3 * s) as u64], d: vec![s * s], leaves: 1, s: vec![s] };
     let first = by_hand(-55, [1, 1, 0, 1, 0, -1, 0, -1, 0, 0]);
     let second = by_hand(77, [1, 1, 1, 0, 0, 1, 1, 0, 1, 0]);
     // Both equations hold, as the verdict shows where B takes 121.
     for (bound, answer) in [(100, Long), (120, Long), (121, Yes)] {
         let p = setting(1, 1, 1, 2, bound);
-        assert_eq!(judge(&p, &instance(11), &instance(-5), &first, &C).0, answer);
-        assert_eq!(judge(&p, &instance(7), &instance(11), &second, &C).0, answer);
+        assert_eq!(judge(&p, &node(11), &node(-5), &first, &C).0, answer);
+        assert_eq!(judge(&p, &node(7), &node(11), &second, &C).0, answer);
     }
     let border = honest_message(&ONE, General, &[3], &[10], &[-10]).unwrap();
-    assert_eq!(judge(&ONE, &instance(10), &instance(-10), &border, &C).0, Yes);
+    assert_eq!(judge(&ONE, &node(10), &node(-10), &border, &C).0, Yes);
 }
 
 #[test]
@@ -480,11 +484,11 @@ fn only_the_diagonal_is_long() {
     let p = setting(1, 1, 2, 5, 576);
     let columns = p.columns() as usize;
     let sent = Message { v: vec![577; 4], tt: vec![0; columns], dd: vec![0; triangle_length(columns)], ss: vec![] };
-    let instance = |d: [i64; 4]| Node { t: vec![0; 2], d: d.to_vec(), s: vec![] };
-    let short = instance([576, 577, 577, 576]);
+    let node = |d: [i64; 4]| Node { t: vec![0; 2], d: d.to_vec(), leaves: 1, s: vec![] };
+    let short = node([576, 577, 577, 576]);
     let c = vec![1; 2 * columns];
     assert_eq!(judge(&p, &short, &short, &sent, &c).0, Norm);
-    for long in [instance([577, 0, 0, 0]), instance([0, 0, 0, 577])] {
+    for long in [node([577, 0, 0, 0]), node([0, 0, 0, 577])] {
         assert_eq!(judge(&p, &long, &short, &sent, &c).0, Long);
         assert_eq!(judge(&p, &short, &long, &sent, &c).0, Long);
     }
@@ -506,8 +510,8 @@ fn a_negative_diagonal_may_pass() {
     // Within −H it gets yes when the equations hold.
     let mut zero = Message { v: vec![0], tt: vec![0; 10], dd: vec![0; 55], ss: vec![0; 10] };
     zero.dd[0] = -1;
-    let below = Node { t: vec![0], d: vec![-1], s: vec![] };
-    let nothing = Node { t: vec![0], d: vec![0], s: vec![] };
+    let below = Node { t: vec![0], d: vec![-1], leaves: 1, s: vec![] };
+    let nothing = Node { t: vec![0], d: vec![0], leaves: 1, s: vec![] };
     assert_eq!(judge(&ONE, &below, &nothing, &zero, &[1; 10]), (Yes, vec![0], vec![-1]));
 }
 

@@ -7,10 +7,12 @@ use reference::rng::Rng;
 use reference::settings::{Parameters, LIST};
 use reference::tree::{honest, plain, Tree};
 
-/// Every verdict is yes, the root is the plain tree's matrix, and the root's instance has it as witness.
+/// Every verdict is yes, the root has one leaf more than there are folds, it is the plain tree's matrix, and the root's
+/// instance has it as witness.
 fn check(p: &Parameters, a: &[u64], tree: &Tree, folds: usize) {
     let (answers, root) = honest(p, a, tree).unwrap();
     assert_eq!(answers, vec![Answer::Yes; folds]);
+    assert_eq!((u64::from(root.leaves), tree.leaves()), (folds as u64 + 1, folds as u64 + 1));
     assert_eq!(Some(&root.s), plain(p, tree).as_ref());
     assert_eq!(relation(p, a, &root.t, &root.d, &root.s), Answer::Member);
     let (n, m, t) = (p.n as usize, p.m as usize, p.t as usize);

@@ -17,7 +17,7 @@ const SMALL: Parameters = Parameters { n: 1, m: 1, t: 2, b: 5, bound: 576 };
 
 /// A verdict, in the form with a triangle or in that with a square.
 type Verdict = fn(
-    &Parameters, Profile, &[u64], &[i64], &[u64], &[i64], &[i64], &[u64], &[i64], &[u8], &mut [u64], &mut [i64],
+    &Parameters, Profile, Instance, Instance, &[i64], &[u64], &[i64], &[u8], &mut [u64], &mut [i64], &mut u32,
 ) -> Answer;
 
 /// What a verdict reads beside the setting.
@@ -31,13 +31,13 @@ struct Inputs {
 }
 
 impl Inputs {
-    /// A verdict's answer with what T' and D' hold afterwards; both held 99.
-    fn judged(&self, p: &Parameters, verdict: Verdict) -> (Answer, Vec<u64>, Vec<i64>) {
+    /// A verdict's answer with what T', D' and the count hold afterwards; all held 99.
+    fn judged(&self, p: &Parameters, verdict: Verdict) -> (Answer, Vec<u64>, Vec<i64>, u32) {
         let Inputs { profile, left, right, sent, c } = self;
-        let (mut t, mut d) = (vec![99; left.t.len()], vec![99; left.d.len()]);
-        let (v, tt, dd) = (&sent.v, &sent.tt, &sent.dd);
-        let answer = verdict(p, *profile, &left.t, &left.d, &right.t, &right.d, v, tt, dd, c, &mut t, &mut d);
-        (answer, t, d)
+        let (mut t, mut d, mut leaves) = (vec![99; left.t.len()], vec![99; left.d.len()], 99);
+        let (one, two, v) = (left.instance(), right.instance(), &sent.v);
+        let answer = verdict(p, *profile, one, two, v, &sent.tt, &sent.dd, c, &mut t, &mut d, &mut leaves);
+        (answer, t, d, leaves)
     }
 
     /// The same with another D~.
@@ -71,11 +71,11 @@ fn any<'a, T>(rng: &mut Rng, entries: &'a mut [T]) -> &'a mut T {
     &mut entries[at]
 }
 
-/// Change one entry of what a verdict reads, or cut D~.
+/// Change one entry of what a verdict reads, or a count.
 fn damage(rng: &mut Rng, p: &Parameters, input: &mut Inputs) {
     let (bit, limit) = (rng.word() % 64, p.product_limit().unwrap() as i64);
     let bound = p.bound as i64;
-    match rng.word() % 10 {
+    match rng.word() % 11 {
         0..=2 => *any(rng, &mut input.sent.dd) += 1,
         3 => *any(rng, &mut input.sent.dd) = -limit - 1,
         4 => *any(rng, &mut input.sent.tt) ^= 1 << bit,
@@ -83,6 +83,7 @@ fn damage(rng: &mut Rng, p: &Parameters, input: &mut Inputs) {
         6 => *any(rng, &mut input.left.d) += 1,
         7 => *any(rng, &mut input.right.t) ^= 1 << bit,
         8 => input.left.d[0] = bound + 1,
+        9 => input.right.leaves = *any(rng, &mut [0, u32::MAX - 1, u32::MAX]),
         _ => *any(rng, &mut input.c) = 3,
     }
 }
@@ -140,7 +141,7 @@ fn the_verdict_is_that_on_the_mirrored_square() {
         assert_eq!(outcome, input.in_square(&z).judged(&p, square_verdict));
         *counts.entry(format!("{profile:?} {}", outcome.0.word())).or_insert(0) += 1;
     }
-    for word in ["yes", "long", "norm", "commitment", "refused(9)", "refused(10)"] {
+    for word in ["yes", "long", "norm", "commitment", "refused(15)", "refused(9)", "refused(10)"] {
         for profile in ["General", "Fresh"] {
             let count = counts.get(&format!("{profile} {word}")).copied().unwrap_or(0);
             assert!(count > 20, "{profile} {word}: {counts:?}");
@@ -157,7 +158,7 @@ fn other_lengths_are_7() {
         let triangle = columns * (columns + 1) / 2;
         for length in [0, columns, triangle - columns, triangle - 1, triangle + 1, columns * columns] {
             let mut other = input.with(vec![0; length]);
-            assert_eq!(other.judged(&SMALL, verdict), (Refused(7), vec![99; 2], vec![99; 4]));
+            assert_eq!(other.judged(&SMALL, verdict), (Refused(7), vec![99; 2], vec![99; 4], 99));
             // A wrong length comes before a bad byte, a bad setting before both.
             other.c[0] = 3;
             assert_eq!(other.judged(&SMALL, verdict).0, Refused(7));

@@ -14,10 +14,11 @@ use Rattle.settings.specs.Rules.{firstOf}
 use Rattle.settings.specs.Settings.{Parameters}
 use Rattle.text.specs.Fields.{fields, same, exactly, afterWord, recordOf, readU64, readI64, readTernary}
 use Rattle.text.proofs.Bytes.{same-eq}
+use Rattle.lova.specs.Answers.{refuses}
 use Rattle.lova.specs.Stored.{matrixA, matrixS, sizeC}
 use Rattle.lova.specs.Commit.{commit}
 use Rattle.chain.specs.Limits.{programRules}
-use Rattle.chain.specs.Nodes.{Node, blankInstance, refuses, foldOf}
+use Rattle.chain.specs.Nodes.{Node, blankInstance, foldOf}
 use Rattle.chain.specs.Reports.{leafWord}
 use Rattle.chain.specs.Chain.{State, Counts, Stage, param, matrix, first, leaf, challenge, stopped, Step, start, fromFive, onSetting, onParam, onMatrix, onLeaf, onChallenge, takeDue, isStopped, badLine, takeLine, longestLine, paramWord, aWord, cWord}
 use Rattle.chain.specs.Program.{stateAfter, taken, firstIs, countC}

@@ -1,6 +1,7 @@
 -- What a run has come to after some lines: the accumulated instance and witness are those of the left-leaning tree of the leaves and
 -- challenges read so far.
-use mathlib.Core.Path.{_≡_, refl, sym, _∙_, ap, subst}
+use mathlib.Core.Path.{_≡_, refl, sym, _∙_, ap, ap₂, subst}
+use mathlib.Core.Logic.{_⊎_, inl, inr}
 use mathlib.Core.Bool.{Bool, true, false, not, cond, true≢false}
 use mathlib.Core.List.{List, [], _∷_, _++_, append-assoc, append-nil}
 use mathlib.Core.Option.{Option, some, none}
@@ -10,28 +11,29 @@ use lib.Arith.{digits-lt}
 use lib.Dec.{leb, le→leb}
 use lib.IntN.{ℤ}
 use lib.ListN.{length}
-use Rattle.integers.proofs.Tests.{true-is}
+use Rattle.integers.proofs.Tests.{true-is, le-or-lt}
 use Rattle.settings.specs.Rules.{Rule, _gives_, firstOf}
 use Rattle.settings.specs.Settings.{Parameters, settingRules, settingRefusal}
 use Rattle.settings.proofs.Rules.{stop-all}
 use Rattle.text.specs.Fields.{recordOf, readU64, readI64, readTernary}
 use Rattle.text.proofs.Records.{record-each, ternary-each, each-at}
-use Rattle.lova.specs.Answers.{done, «yes», member, Outcome, ends, unlessRefused, afterSetting}
-use Rattle.lova.specs.Stored.{matrixA, matrixS, sizeC}
-use Rattle.lova.specs.Calls.{Fits, Short}
+use Rattle.lova.specs.Answers.{«yes», member, refused, Outcome, ends, refusal, refuses}
+use Rattle.lova.specs.Stored.{counted, mostLeaves, matrixA, matrixS, sizeC}
+use Rattle.lova.specs.Calls.{Fits}
 use Rattle.lova.specs.declared.Profile.the-variants.{General}
-use Rattle.lova.specs.Commit.{commitRules, instanceOf, commitIn, commit}
-use Rattle.lova.specs.Trees.{Tree, leaf, fold, Proper, seen, viewOf, leftWitness}
+use Rattle.lova.specs.Commit.{instanceOf, commit}
+use Rattle.lova.specs.Trees.{Tree, leaf, fold, leavesOf, Proper, seen, viewOf, leftWitness}
 use Rattle.lova.proofs.Refusals.{commit-proper}
 use Rattle.chain.specs.Limits.{settingLimits, small, programLimits, programRules}
-use Rattle.chain.specs.Nodes.{Node, blankInstance, refusal, refuses, foldOf}
-use Rattle.chain.specs.Reports.{leafWord, foldLine, endLine}
-use Rattle.chain.specs.Chain.{State, Counts, Stage, param, matrix, first, challenge, stopped, Step, start, fromFive, onSetting, onParam, onMatrix, onLeaf, onChallenge, takeDue, isStopped, badLine, takeLine, endDue, atEnd, longestLine, paramWord, aWord, cWord}
+use Rattle.chain.specs.Nodes.{Node, blankInstance, foldOf}
+use Rattle.chain.specs.Reports.{leafWord, leafLine, foldLine, endLine}
+use Rattle.chain.specs.Chain.{State, Counts, Stage, param, matrix, first, challenge, stopped, Step, start, refuse, fromFive, numberOf, onSetting, onParam, onMatrix, onLeaf, onChallenge, takeDue, isStopped, badLine, takeLine, endDue, atEnd, longestLine, paramWord, aWord, cWord}
 use Rattle.chain.specs.Chain as Chain
 use Rattle.chain.specs.Program.{stateAfter}
 use Rattle.chain.specs.Trees.{blankHeld, treeNode, Spells, one, more}
 use Rattle.chain.proofs.Limits.{program-accepts}
-use Rattle.chain.proofs.Trees.{fold-is, member-is}
+use Rattle.chain.proofs.Refusing.{commit-passes, commit-makes}
+use Rattle.chain.proofs.Trees.{node-leaves, fold-is, fold-beyond, member-is}
 
 -- a record has as many numbers as were asked for
 record-length : {A : Type 0} (read : List ℕ → Option A) (word : List ℕ) (n : ℕ) (line : List ℕ) (xs : List A) → recordOf read word n line ≡ some xs → length xs ≡ n
@@ -56,13 +58,15 @@ record Keyed (ls : List (List ℕ)) (p : Parameters) (A : List ℕ) : Type 0 whe
   opened : Opened before p
   reads-a : recordOf readU64 aWord (matrixA p .size) line ≡ some A
 
--- leaves and challenges were taken: the lines spell a tree, and the accumulated node is its root
+-- leaves and challenges were taken: the lines spell a tree with no more leaves than can be counted, and the accumulated node is its
+-- root
 pub record Grown (ls : List (List ℕ)) (p : Parameters) (A : List ℕ) (node : Node) : Type 0 where
   pub tree : Tree
   pub spells : Spells ls p A tree
   pub ok : settingRefusal p ≡ 0
   pub sizeA : Fits (matrixA p) A
   pub proper : Proper p tree
+  pub few : leavesOf tree ≤ mostLeaves
   pub node-is : node ≡ treeNode p A tree
 
 -- a leaf waits for its challenge
@@ -115,12 +119,37 @@ fold-proper p t S C line h g k =
     let r = ternary-each cWord (sizeC p) line C h in
     (g, k, (r .0, λ i j u v. each-at (λ x. x ≤ 2) C 0 (r .1) (i * p .t + j) (subst (λ (q : ℕ). i * p .t + j < q) (sym (r .0)) (digits-lt u v))))
 
--- the fold of the accumulated node with the new leaf is the node of the larger tree
-fold-node : (ls : List (List ℕ)) (n : Counts) (line : List ℕ) (p : Parameters) (A : List ℕ) (acc new : Node) (r : Waiting ls p A acc new) (C : List ℕ)
-    → recordOf readTernary cWord (sizeC p) line ≡ some C → foldOf p A acc new C ≡ ends «yes» (treeNode p A (fold (r .grown .tree) (leaf (r .S)) C))
-fold-node ls n line p A acc new r C h =
-    let g = r .grown in
-    rw (g .node-is, r .new-is) (fold-is p A (g .ok) (g .sizeA) (g .tree) (leaf (r .S)) C (fold-proper p (g .tree) (r .S) C line h (g .proper) (r .proper)))
+-- the fold of the accumulated node with the new leaf
+module _ (ls : List (List ℕ)) (line : List ℕ) (p : Parameters) (A : List ℕ) (acc new : Node) (r : Waiting ls p A acc new) (C : List ℕ) (h : recordOf readTernary cWord (sizeC p) line ≡ some C) where
+  abbrev so-far : Tree
+  so-far = r .grown .tree
+
+  abbrev larger : Tree
+  larger = fold so-far (leaf (r .S)) C
+
+  larger-proper : Proper p larger
+  larger-proper = fold-proper p so-far (r .S) C line h (r .grown .proper) (r .proper)
+
+  both-are : foldOf p A acc new C ≡ foldOf p A (treeNode p A so-far) (treeNode p A (leaf (r .S))) C
+  both-are = ap₂ (λ (x y : Node). foldOf p A x y C) (r .grown .node-is) (r .new-is)
+
+  -- it is the node of the larger tree
+  fold-node : leavesOf larger ≤ mostLeaves → foldOf p A acc new C ≡ ends «yes» (treeNode p A larger)
+  fold-node few = both-are ∙ fold-is p A (r .grown .ok) (r .grown .sizeA) so-far (leaf (r .S)) C larger-proper few
+
+  -- or it is refused with 15, where that has too many leaves
+  fold-refused : mostLeaves < leavesOf larger → foldOf p A acc new C ≡ ends (refused 15) (treeNode p A so-far)
+  unfolding leavesOf
+  fold-refused many = both-are ∙ fold-beyond p A (r .grown .ok) (r .grown .sizeA) so-far (leaf (r .S)) C larger-proper (r .grown .few) (omega arith) many
+
+  -- so where it is not refused, the larger tree is within the bound
+  fold-few : refuses ((foldOf p A acc new C) .answer) ≡ false → leavesOf larger ≤ mostLeaves
+  unfolding refusal refuses
+  fold-few e = by (le-or-lt (leavesOf larger) mostLeaves)
+    where
+      by : (leavesOf larger ≤ mostLeaves) ⊎ (mostLeaves < leavesOf larger) → leavesOf larger ≤ mostLeaves
+      by (inl few) = few
+      by (inr many) = absurd (true≢false (sym (ap (λ (o : Outcome Node). refuses (o .answer)) (fold-refused many)) ∙ e))
 
 either : (ls : List (List ℕ)) (c : Bool) (s t : Step) → Reached ls (s .state .stage) → (c ≡ false → Reached ls (t .state .stage)) → Reached ls ((cond c s t) .state .stage)
 either ls true s t h g = h
@@ -149,12 +178,8 @@ module _ (ls : List (List ℕ)) (n : Counts) (line : List ℕ) where
 
   -- a leaf that is not refused has columns within B
   leaf-proper : (p : Parameters) (A : List ℕ) (S : List ℤ) → recordOf readI64 leafWord (matrixS p .size) line ≡ some S → refuses ((commit p A S (blankInstance p)) .answer) ≡ false → Proper p (leaf S)
-  unfolding commitIn unlessRefused refusal refuses Proper
-  leaf-proper p A S h e = (record-length readI64 leafWord (matrixS p .size) line S h, by (firstOf (afterSetting p (commitRules p General A S (blankInstance p)))) refl e)
-    where
-      by : (k : ℕ) → firstOf (afterSetting p (commitRules p General A S (blankInstance p))) ≡ k → refuses (unlessRefused k (blankInstance p) (ends done (instanceOf p A S)) .answer) ≡ false → Short p S
-      by zero z f = commit-proper p General A S (blankInstance p) .0 z .columns
-      by (suc k) z f = absurd (true≢false f)
+  unfolding Proper
+  leaf-proper p A S h e = (record-length readI64 leafWord (matrixS p .size) line S h, commit-proper p General A S (blankInstance p) .0 (commit-passes p A S (blankInstance p) e) .columns)
 
   at-leaf : (p : Parameters) (A : List ℕ) (after : Node → Stage)
       → ((S : List ℤ) → recordOf readI64 leafWord (matrixS p .size) line ≡ some S → Proper p (leaf S) → Reached more-lines (after (record { instance = (commit p A S (blankInstance p)) .outputs; witness = S })))
@@ -162,6 +187,10 @@ module _ (ls : List (List ℕ)) (n : Counts) (line : List ℕ) where
   unfolding onLeaf
   at-leaf p A after g none h = tt
   at-leaf p A after g (some S) h = either more-lines (refuses ((commit p A S (blankInstance p)) .answer)) _ _ tt (λ e. g S h (leaf-proper p A S h e))
+
+  one-few : (S : List ℤ) → leavesOf (leaf S) ≤ mostLeaves
+  unfolding leavesOf
+  one-few S = omega arith
 
   -- the first leaf
   at-first : (p : Parameters) (A : List ℕ) → Keyed ls p A → (o : Option (List ℤ)) → recordOf readI64 leafWord (matrixS p .size) line ≡ o
@@ -182,7 +211,7 @@ module _ (ls : List (List ℕ)) (n : Counts) (line : List ℕ) where
       first-grown : (S : List ℤ) → recordOf readI64 leafWord (matrixS p .size) line ≡ some S → Proper p (leaf S)
           → Grown more-lines p A (record { instance = (commit p A S (blankInstance p)) .outputs; witness = S })
       first-grown S h proper =
-          record { tree = leaf S; spells = spelled S h; ok = r .opened .ok; sizeA = sizeA; proper = proper; node-is = leaf-node p A (r .opened .ok) sizeA S proper }
+          record { tree = leaf S; spells = spelled S h; ok = r .opened .ok; sizeA = sizeA; proper = proper; few = one-few S; node-is = leaf-node p A (r .opened .ok) sizeA S proper }
 
   -- a further leaf
   at-next : (p : Parameters) (A : List ℕ) (acc : Node) → Grown ls p A acc → (o : Option (List ℤ)) → recordOf readI64 leafWord (matrixS p .size) line ≡ o
@@ -195,10 +224,10 @@ module _ (ls : List (List ℕ)) (n : Counts) (line : List ℕ) where
       → Reached more-lines (onChallenge n p A acc new o .state .stage)
   unfolding onChallenge
   at-challenge p A acc new r none h = tt
-  at-challenge p A acc new r (some C) h = either more-lines (refuses ((foldOf p A acc new C) .answer)) _ _ tt (λ e. folded C h)
+  at-challenge p A acc new r (some C) h = either more-lines (refuses ((foldOf p A acc new C) .answer)) _ _ tt (λ e. folded C h (fold-few ls line p A acc new r C h e))
     where
-      folded : (C : List ℕ) → recordOf readTernary cWord (sizeC p) line ≡ some C → Grown more-lines p A ((foldOf p A acc new C) .outputs)
-      folded C h =
+      folded : (C : List ℕ) (h : recordOf readTernary cWord (sizeC p) line ≡ some C) → leavesOf (larger ls line p A acc new r C h) ≤ mostLeaves → Grown more-lines p A ((foldOf p A acc new C) .outputs)
+      folded C h few =
           let g = r .grown in
           let t = g .tree in
           record {
@@ -208,8 +237,9 @@ module _ (ls : List (List ℕ)) (n : Counts) (line : List ℕ) where
                 (more (r .before) p A t (r .line) line (r .S) C (g .spells) (r .reads-leaf) h);
             ok = g .ok;
             sizeA = g .sizeA;
-            proper = fold-proper p t (r .S) C line h (g .proper) (r .proper);
-            node-is = ap (λ (o : Outcome Node). o .outputs) (fold-node ls n line p A acc new r C h);
+            proper = larger-proper ls line p A acc new r C h;
+            few = few;
+            node-is = ap (λ (o : Outcome Node). o .outputs) (fold-node ls line p A acc new r C h few);
           }
 
   -- a line by what is due
@@ -254,15 +284,47 @@ run-is-tree ls p A node e = subst (Reached ls) e (reached ls)
 pub run-waits : (ls : List (List ℕ)) (p : Parameters) (A : List ℕ) (node new : Node) → stateAfter start ls .stage ≡ challenge p A node new → Waiting ls p A node new
 run-waits ls p A node new e = subst (Reached ls) e (reached ls)
 
--- every challenge that is read is folded, and its line says yes with the instance of the larger tree
-pub fold-says-yes : (ls : List (List ℕ)) (line : List ℕ) (p : Parameters) (A : List ℕ) (node new : Node) (C : List ℕ) (e : stateAfter start ls .stage ≡ challenge p A node new)
-    → length line ≤ longestLine → recordOf readTernary cWord (sizeC p) line ≡ some C
-    → let w = run-waits ls p A node new e in
-    takeLine (stateAfter start ls) line .output ≡ foldLine p (stateAfter start ls .counts .folds + 1) «yes» ((treeNode p A (fold (w .grown .tree) (leaf (w .S)) C)) .instance)
-unfolding takeLine takeDue onChallenge refusal refuses
-fold-says-yes ls line p A node new C e h k =
-    let f = fold-node ls (stateAfter start ls .counts) line p A node new (run-waits ls p A node new e) C k in
-    rw (e, true-is (leb (length line) longestLine) (le→leb (length line) longestLine h), k, f) refl
+-- and the count beside the accumulated instance is the number of that tree's leaves
+pub tree-counted : (ls : List (List ℕ)) (p : Parameters) (A : List ℕ) (node : Node) (e : stateAfter start ls .stage ≡ Chain.leaf p A node)
+    → node .instance .leaves ≡ leavesOf (run-is-tree ls p A node e .tree)
+tree-counted ls p A node e =
+    let g = run-is-tree ls p A node e in
+    ap (λ (z : Node). z .instance .leaves) (g .node-is) ∙ node-leaves p A (g .ok) (g .sizeA) (g .tree) (g .proper) (g .few)
+
+-- a line that is not too long
+line-fits : (line : List ℕ) → length line ≤ longestLine → leb (length line) longestLine ≡ true
+line-fits line h = true-is (leb (length line) longestLine) (le→leb (length line) longestLine h)
+
+-- a leaf that is not refused prints one leaf
+pub leaf-says-one : (s : State) (line : List ℕ) (p : Parameters) (A : List ℕ) (S : List ℤ)
+    → (s .stage ≡ first p A) ⊎ ((node : Node) × (s .stage ≡ Chain.leaf p A node))
+    → length line ≤ longestLine → recordOf readI64 leafWord (matrixS p .size) line ≡ some S → refuses ((commit p A S (blankInstance p)) .answer) ≡ false
+    → takeLine s line .output ≡ leafLine p (s .counts .leaves + 1) (counted (instanceOf p A S) 1)
+unfolding takeLine takeDue onLeaf refusal refuses
+leaf-says-one s line p A S (inl e) h k f = rw (line-fits line h, e, k, commit-makes p A S (blankInstance p) f) refl
+leaf-says-one s line p A S (inr e) h k f = rw (line-fits line h, e .1, k, commit-makes p A S (blankInstance p) f) refl
+
+module _ (ls : List (List ℕ)) (line : List ℕ) (p : Parameters) (A : List ℕ) (node new : Node) (C : List ℕ) (e : stateAfter start ls .stage ≡ challenge p A node new) (h : length line ≤ longestLine) (k : recordOf readTernary cWord (sizeC p) line ≡ some C) where
+  abbrev waits : Waiting ls p A node new
+  waits = run-waits ls p A node new e
+
+  abbrev grown : Tree
+  grown = fold (waits .grown .tree) (leaf (waits .S)) C
+
+  -- every challenge that is read is folded, and its line says yes with the instance of the larger tree and the number of its leaves
+  pub fold-says-yes : leavesOf (waits .grown .tree) + 1 ≤ mostLeaves
+      → takeLine (stateAfter start ls) line .output ≡ foldLine p (stateAfter start ls .counts .folds + 1) «yes» (counted ((treeNode p A grown) .instance .instance) (leavesOf grown))
+  unfolding takeLine takeDue onChallenge refusal refuses leavesOf
+  fold-says-yes few =
+      let g = waits .grown in
+      let f = fold-node ls line p A node new waits C k few in
+      rw (e, line-fits line h, k, f)
+      (ap (λ (n : ℕ). foldLine p (stateAfter start ls .counts .folds + 1) «yes» (counted ((treeNode p A grown) .instance .instance) n)) (node-leaves p A (g .ok) (g .sizeA) grown (larger-proper ls line p A node new waits C k) few))
+
+  -- but with as many leaves as can be counted it is refused with 15
+  pub fold-too-many : mostLeaves < leavesOf (waits .grown .tree) + 1 → takeLine (stateAfter start ls) line ≡ refuse (stateAfter start ls .counts) 15
+  unfolding takeLine takeDue onChallenge refusal refuses numberOf leavesOf
+  fold-too-many many = rw (e, line-fits line h, k, fold-refused ls line p A node new waits C k many) refl
 
 -- where the input may end, the last line is the number of folds and member
 pub end-says-member : (ls : List (List ℕ)) (p : Parameters) (A : List ℕ) (node : Node) → stateAfter start ls .stage ≡ Chain.leaf p A node
@@ -270,4 +332,4 @@ pub end-says-member : (ls : List (List ℕ)) (p : Parameters) (A : List ℕ) (no
 unfolding atEnd endDue
 end-says-member ls p A node e =
     let g = run-is-tree ls p A node e in
-    rw (e, g .node-is) (ap (endLine (stateAfter start ls .counts .folds)) (member-is p A (g .ok) (g .sizeA) (g .tree) (g .proper)))
+    rw (e, g .node-is) (ap (endLine (stateAfter start ls .counts .folds)) (member-is p A (g .ok) (g .sizeA) (g .tree) (g .proper) (g .few)))

@@ -1,26 +1,29 @@
 -- What is kept after an answer: how a leaf and a fold are told from their calls, and what they tell a caller.
 use mathlib.Core.Path.{_≡_, refl, sym, _∙_, ap}
-use mathlib.Core.Bool.{Bool, true, false}
+use mathlib.Core.Bool.{Bool, true, false, true≢false}
 use mathlib.Core.List.{List, [], _∷_}
-use Prim.Native.Nat.{ℕ}
+use Prim.Native.Nat.{ℕ, zero, suc}
 use lib.IntN.{ℤ}
 use denote.Enum.Declared.{tagOf}
 use types.Run.{OneOf, miss}
+use Rattle.settings.specs.Rules.{firstOf}
 use Rattle.settings.specs.Settings.{Parameters}
 use Rattle.lova.specs.declared.Verdict.{Verdict}
 use Rattle.lova.specs.declared.Verdict.the-variants as Verdicts
-use Rattle.lova.specs.Answers.{Meaning, verdictOf, Outcome, ends}
-use Rattle.lova.specs.Stored.{Instance, Message, Prepared}
-use Rattle.lova.specs.Commit.{commit}
+use Rattle.lova.specs.declared.Profile.the-variants.{General}
+use Rattle.lova.specs.Answers.{Meaning, done, verdictOf, Outcome, ends, unlessRefused, afterSetting, refusal, refuses, countAfter}
+use Rattle.lova.specs.Stored.{Instance, Counted, counted, Message, Prepared}
+use Rattle.lova.specs.Commit.{commitRules, instanceOf, commitIn, commit}
 use Rattle.lova.specs.Message.{message}
 use Rattle.lova.specs.Verdict.{verdict}
 use Rattle.lova.specs.Witness.{witness}
 use Rattle.lova.proofs.Verdict.{the-type}
-use Rattle.chain.specs.Nodes.{Node, nodeOf, blankInstance, blankPrepared, blankWitness, refusal, refuses, unlessRefusing, leafOf, foldAnswer, callsOf, foldOf}
+use Rattle.lova.proofs.Refusals.{ends-so}
+use Rattle.chain.specs.Nodes.{Node, nodeOf, blankInstance, blankPrepared, blankNode, unlessRefusing, leafOf, foldAnswer, callsOf, foldOf}
 
 -- nodes and messages with equal parts
-pub node-same : (T T′ : List ℕ) (D D′ S S′ : List ℤ) → T ≡ T′ → D ≡ D′ → S ≡ S′ → nodeOf T D S ≡ nodeOf T′ D′ S′
-node-same T T′ D D′ S S′ t d s = rw (t, d, s) refl
+pub node-same : (T T′ : List ℕ) (D D′ : List ℤ) (n n′ : ℕ) (S S′ : List ℤ) → T ≡ T′ → D ≡ D′ → n ≡ n′ → S ≡ S′ → nodeOf T D n S ≡ nodeOf T′ D′ n′ S′
+node-same T T′ D D′ n n′ S S′ t d l s = rw (t, d, l, s) refl
 
 pub message-same : («V» V′ : List ℤ) (T~ T′ : List ℕ) (D~ D′ : List ℤ) → «V» ≡ V′ → T~ ≡ T′ → D~ ≡ D′ → _≡_ {A = Message} (record { «V» = «V»; T~ = T~; D~ = D~ }) (record { «V» = V′; T~ = T′; D~ = D′ })
 message-same «V» V′ T~ T′ D~ D′ v t d = rw (v, t, d) refl
@@ -31,11 +34,19 @@ passing = 0 ∷ 1 ∷ 2 ∷ 3 ∷ []
 
 pub passes-on : (v : Verdict) → OneOf passing (tagOf the-type v) → refuses (verdictOf v) ≡ false
 unfolding refusal refuses verdictOf
-passes-on Verdicts.Yes h = refl
+passes-on (Verdicts.Yes leaves) h = refl
 passes-on Verdicts.Long h = refl
 passes-on Verdicts.Norm h = refl
 passes-on Verdicts.Commitment h = refl
 passes-on (Verdicts.Refused r) h = absurd (miss passing (tagOf the-type (Verdicts.Refused r)) tt h)
+
+-- the leaf count after an answer: the answer's, and with a refusal the one that was there
+module _ (a : Meaning) (leaves before : ℕ) where
+  pub count-after : refuses a ≡ false → countAfter a leaves before ≡ leaves
+  count-after e = rw e refl
+
+  pub count-before : refuses a ≡ true → countAfter a leaves before ≡ before
+  count-before e = rw e refl
 
 -- an answer that does not refuse keeps what was made, a refusal what was there
 module _ (a : Meaning) (before after : Node) where
@@ -67,19 +78,39 @@ module _ (a : Meaning) (before after : Node) where
 
 -- ---- a leaf
 
+-- a commit that does not refuse has passed every rule, and so it has made the instance, with one leaf
+module _ (p : Parameters) (A : List ℕ) (S : List ℤ) (out : Instance) (f : refuses ((commit p A S out) .answer) ≡ false) where
+  abbrev applies : ℕ
+  applies = firstOf (afterSetting p (commitRules p General A S out))
+
+  abbrev one-leaf : Counted
+  one-leaf = counted (instanceOf p A S) 1
+
+  pub commit-passes : applies ≡ 0
+  unfolding commitIn unlessRefused refusal refuses
+  commit-passes = by applies f
+    where
+      by : (r : ℕ) → refuses (unlessRefused r (counted out 0) (ends done one-leaf) .answer) ≡ false → r ≡ 0
+      by zero g = refl
+      by (suc r) g = absurd (true≢false g)
+
+  pub commit-makes : commit p A S out ≡ ends done one-leaf
+  unfolding commitIn
+  commit-makes = ends-so (counted out 0) (ends done one-leaf) applies commit-passes
+
 module _ (p : Parameters) (A : List ℕ) (S : List ℤ) (before : Node) where
-  leaf-by : Outcome Instance → Outcome Node
+  leaf-by : Outcome Counted → Outcome Node
   leaf-by o = unlessRefusing (o .answer) before (record { instance = o .outputs; witness = S })
 
   -- from commit's end
-  module _ (v : Meaning) (I : Instance) (e : ends v I ≡ commit p A S (blankInstance p)) where
-    pub leaf-ends : refuses v ≡ false → ends v (record { instance = I; witness = S }) ≡ leafOf p A S before
+  module _ (v : Meaning) (J : Counted) (e : ends v J ≡ commit p A S (blankInstance p)) where
+    pub leaf-ends : refuses v ≡ false → ends v (record { instance = J; witness = S }) ≡ leafOf p A S before
     unfolding leafOf leaf-by
     leaf-ends f = sym (kept-after v before _ f) ∙ ap leaf-by e
 
     pub leaf-refuses : refuses v ≡ true → ends v before ≡ leafOf p A S before
     unfolding leafOf leaf-by
-    leaf-refuses f = sym (kept-before v before (record { instance = I; witness = S }) f) ∙ ap leaf-by e
+    leaf-refuses f = sym (kept-before v before (record { instance = J; witness = S }) f) ∙ ap leaf-by e
 
   -- from the leaf's end: commit's answer; where it does not refuse, the node is what commit left, and S; else it is as it was
   module _ (v : Meaning) (z : Node) (e : ends v z ≡ leafOf p A S before) where
@@ -95,26 +126,29 @@ module _ (p : Parameters) (A : List ℕ) (S : List ℤ) (before : Node) where
     unfolding leaf-by
     leaf-made = after-told _ before _ v z told-leaf
 
+    -- and one leaf is under it
+    pub leaf-one : refuses v ≡ false → z .instance .leaves ≡ 1
+    leaf-one f =
+        ap (λ (y : Node). y .instance .leaves) (leaf-made f)
+        ∙ ap (λ (o : Outcome Counted). o .outputs .leaves) (commit-makes p A S (blankInstance p) (ap refuses leaf-answer ∙ f))
+
     pub leaf-kept : refuses v ≡ true → z ≡ before
     unfolding leaf-by
     leaf-kept = before-told _ before _ v z told-leaf
 
 -- ---- a fold
 
--- the outputs that the calls of a fold find
-abbrev pub blankNode : Parameters → Node
-blankNode p = record { instance = blankInstance p; witness = blankWitness p }
-
 module _ (p : Parameters) (A : List ℕ) (left right : Node) (C : List ℕ) where
-  -- from the ends of message, folded witness and verdict
-  pub calls-end : (before : Node) (said : Outcome Prepared) (folded : Outcome (List ℤ)) (judged : Outcome Instance) (v : Meaning)
+  -- from the ends of message, folded witness and verdict; the verdict's leaf count, and 0 with a refusal
+  pub calls-end : (before : Node) (said : Outcome Prepared) (folded : Outcome (List ℤ)) (judged : Outcome Counted) (v : Meaning) (leaves : ℕ)
       → said ≡ message p A (left .witness) (right .witness) (blankPrepared p)
       → folded ≡ witness p (said .outputs .S~) C (before .witness)
-      → judged ≡ verdict p (left .instance) (right .instance) (said .outputs .message) C (before .instance)
+      → judged ≡ verdict p (left .instance) (right .instance) (said .outputs .message) C (before .instance .instance)
       → v ≡ foldAnswer (said .answer) (folded .answer) (judged .answer)
-      → ends v (record { instance = judged .outputs; witness = folded .outputs }) ≡ callsOf p A left right C before
+      → leaves ≡ countAfter v (judged .outputs .leaves) 0
+      → ends v (record { instance = counted (judged .outputs .instance) leaves; witness = folded .outputs }) ≡ callsOf p A left right C before
   unfolding callsOf
-  calls-end before said folded judged v s f j a = rw (a, j, f, s) refl
+  calls-end before said folded judged v leaves s f j a n = rw (n, a, j, f, s) refl
 
   fold-by : Outcome Node → Outcome Node
   fold-by o = unlessRefusing (o .answer) left (o .outputs)

@@ -10,12 +10,12 @@ use Rattle.settings.specs.Rules.{firstOf}
 use Rattle.settings.specs.Settings.{Parameters}
 use Rattle.settings.specs.HouseList.{parameters}
 use Rattle.text.specs.Fields.{recordOf, readU64, readI64, readTernary}
-use Rattle.lova.specs.Answers.{Meaning}
+use Rattle.lova.specs.Answers.{Meaning, refusal, refuses}
 use Rattle.lova.specs.Stored.{matrixA, matrixS, sizeC}
 use Rattle.lova.specs.Commit.{commit}
 use Rattle.lova.specs.Relation.{relation}
 use Rattle.chain.specs.Limits.{programRules}
-use Rattle.chain.specs.Nodes.{Node, blankInstance, refusal, refuses, foldOf}
+use Rattle.chain.specs.Nodes.{Node, blankInstance, foldOf}
 use Rattle.chain.specs.Reports.{leafWord, leafLine, foldLine, endLine, refusedLine}
 
 -- `param`
@@ -65,23 +65,23 @@ pub record Step : Type 0 where
   pub state : State
   pub output : List ℕ
 
-abbrev pub counted : ℕ → ℕ → ℕ → Counts
-counted line leaves folds = record { line = line; leaves = leaves; folds = folds }
+abbrev pub tally : ℕ → ℕ → ℕ → Counts
+tally line leaves folds = record { line = line; leaves = leaves; folds = folds }
 
 abbrev pub step : Counts → Stage → List ℕ → Step
 step n due output = record { state = record { counts = n; stage = due }; output = output }
 
 -- before the first line
 abbrev pub start : State
-start = record { counts = counted 0 0 0; stage = param }
+start = record { counts = tally 0 0 0; stage = param }
 
 -- the next line is taken and prints nothing
 abbrev pub next : Counts → Stage → Step
-next n due = step (counted (n .line + 1) (n .leaves) (n .folds)) due []
+next n due = step (tally (n .line + 1) (n .leaves) (n .folds)) due []
 
 -- the next line is refused with a number, and the run stops
 abbrev pub refuse : Counts → ℕ → Step
-refuse n number = step (counted (n .line + 1) (n .leaves) (n .folds)) stopped (refusedLine (n .line + 1) number)
+refuse n number = step (tally (n .line + 1) (n .leaves) (n .folds)) stopped (refusedLine (n .line + 1) number)
 
 -- a refusal's number; 0 for every other answer
 unfoldable pub numberOf : Meaning → ℕ
@@ -111,16 +111,16 @@ unfoldable pub onLeaf : Counts → Parameters → List ℕ → (Node → Stage) 
 onLeaf n p A after none = refuse n 13
 onLeaf n p A after (some S) =
     let made = commit p A S (blankInstance p) in
-    let taken = step (counted (n .line + 1) (n .leaves + 1) (n .folds)) (after (record { instance = made .outputs; witness = S }))
+    let taken = step (tally (n .line + 1) (n .leaves + 1) (n .folds)) (after (record { instance = made .outputs; witness = S }))
     (leafLine p (n .leaves + 1) (made .outputs)) in
     cond (refuses (made .answer)) (refuse n (numberOf (made .answer))) taken
 
--- `c` with N×t entries of −1, 0 or 1: 13; the accumulated node is first and the new leaf second
+-- `c` with N×t entries of −1, 0 or 1: 13, then 15; the accumulated node is first and the new leaf second
 unfoldable pub onChallenge : Counts → Parameters → List ℕ → Node → Node → Option (List ℕ) → Step
 onChallenge n p A accumulated new none = refuse n 13
 onChallenge n p A accumulated new (some C) =
     let made = foldOf p A accumulated new C in
-    let taken = step (counted (n .line + 1) (n .leaves) (n .folds + 1)) (leaf p A (made .outputs))
+    let taken = step (tally (n .line + 1) (n .leaves) (n .folds + 1)) (leaf p A (made .outputs))
     (foldLine p (n .folds + 1) (made .answer) (made .outputs .instance)) in
     cond (refuses (made .answer)) (refuse n (numberOf (made .answer))) taken
 
@@ -155,7 +155,7 @@ unfoldable pub endDue : Counts → Stage → List ℕ
 endDue n param = refusedLine (n .line + 1) 13
 endDue n (matrix p) = refusedLine (n .line + 1) 13
 endDue n (first p A) = refusedLine (n .line + 1) 13
-endDue n (leaf p A accumulated) = endLine (n .folds) ((relation p A (accumulated .instance) (accumulated .witness)) .answer)
+endDue n (leaf p A accumulated) = endLine (n .folds) ((relation p A (accumulated .instance .instance) (accumulated .witness)) .answer)
 endDue n (challenge p A accumulated new) = refusedLine (n .line + 1) 13
 endDue n stopped = []
 

@@ -7,7 +7,7 @@ use Rattle.settings.specs.Settings.{Parameters}
 use Rattle.numerals.specs.Numerals.{decimal, decimalZ}
 use Rattle.text.specs.Lines.{tabbed, lineOf}
 use Rattle.lova.specs.Answers.{Meaning, done, «yes», norm, commitment, long, products, member, refused}
-use Rattle.lova.specs.Stored.{Stored, Instance, matrixD}
+use Rattle.lova.specs.Stored.{Stored, Counted, matrixD}
 
 -- `leaf`
 abbrev pub leafWord : List ℕ
@@ -40,29 +40,29 @@ wordOf (refused r) = refusedWord
 unfoldable pub numbersOf : {E : Type 0} → Stored E → ℕ → ℕ → List E → List ℤ
 numbersOf s rows cols xs = table rows cols (s .read xs)
 
--- the numerals of T, and of the entries of D
-abbrev pub instanceFields : List ℕ → List ℤ → List (List ℕ)
-instanceFields T D = map decimal T ++ map decimalZ D
+-- the numerals of T, of the entries of D, and of the leaf count
+abbrev pub instanceFields : List ℕ → List ℤ → ℕ → List (List ℕ)
+instanceFields T D leaves = map decimal T ++ map decimalZ D ++ (decimal leaves ∷ [])
 
 -- how a line ends that has them: a tab before each, and a line feed
-abbrev pub instanceText : List ℕ → List ℤ → List ℕ
-instanceText T D = tabbed (instanceFields T D) ++ (10 ∷ [])
+abbrev pub instanceText : List ℕ → List ℤ → ℕ → List ℕ
+instanceText T D leaves = tabbed (instanceFields T D leaves) ++ (10 ∷ [])
 
--- `leaf` has its number, T, D
-unfoldable pub leafText : ℕ → List ℕ → List ℤ → List ℕ
-leafText number T D = lineOf (leafWord ∷ decimal number ∷ instanceFields T D)
+-- `leaf` has its number, T, D, the leaf count
+unfoldable pub leafText : ℕ → List ℕ → List ℤ → ℕ → List ℕ
+leafText number T D leaves = lineOf (leafWord ∷ decimal number ∷ instanceFields T D leaves)
 
--- `fold` has its number, the verdict, T', D'
-unfoldable pub foldText : ℕ → Meaning → List ℕ → List ℤ → List ℕ
-foldText number answer T D = lineOf (foldWord ∷ decimal number ∷ wordOf answer ∷ instanceFields T D)
+-- `fold` has its number, the verdict, T', D', the leaf count
+unfoldable pub foldText : ℕ → Meaning → List ℕ → List ℤ → ℕ → List ℕ
+foldText number answer T D leaves = lineOf (foldWord ∷ decimal number ∷ wordOf answer ∷ instanceFields T D leaves)
 
 -- the lines of a leaf's and of a fold's instance: they print the entries of D, however D is stored
 module _ (p : Parameters) (number : ℕ) where
-  abbrev pub leafLine : Instance → List ℕ
-  leafLine I = leafText number (I .T) (numbersOf (matrixD p) (p .t) (p .t) (I .D))
+  abbrev pub leafLine : Counted → List ℕ
+  leafLine J = leafText number (J .instance .T) (numbersOf (matrixD p) (p .t) (p .t) (J .instance .D)) (J .leaves)
 
-  abbrev pub foldLine : Meaning → Instance → List ℕ
-  foldLine answer I = foldText number answer (I .T) (numbersOf (matrixD p) (p .t) (p .t) (I .D))
+  abbrev pub foldLine : Meaning → Counted → List ℕ
+  foldLine answer J = foldText number answer (J .instance .T) (numbersOf (matrixD p) (p .t) (p .t) (J .instance .D)) (J .leaves)
 
 -- `end` has the count of folds and the relation test of the final witness
 unfoldable pub endLine : ℕ → Meaning → List ℕ

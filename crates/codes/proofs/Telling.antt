@@ -4,7 +4,7 @@ use mathlib.Core.Path.{_≡_, refl}
 use mathlib.Core.Logic.{_≢_}
 use mathlib.Core.Bool.{Bool, true, false, cond}
 use mathlib.Core.List.{List, [], _∷_}
-use Prim.Native.Nat.{ℕ, zero, suc, _<_}
+use Prim.Native.Nat.{ℕ, zero, suc, _+_, _<_}
 use native.Mathlib.Omega.{arith}
 use lib.IntN.{ℤ}
 use lib.Dec.{T, ltb, ltb→lt}
@@ -14,7 +14,7 @@ use Rattle.settings.specs.Rules.{Rule, firstOf}
 use Rattle.settings.specs.Settings.{Parameters}
 use Rattle.lova.specs.Answers.{Meaning, done, «yes», member, refused, afterSetting, Outcome, ends, unlessRefused}
 use Rattle.lova.specs.declared.Profile.{Profile}
-use Rattle.lova.specs.Stored.{Instance, Message, Prepared, matrixS~}
+use Rattle.lova.specs.Stored.{Instance, Counted, counted, Message, Prepared, matrixS~}
 use Rattle.lova.specs.Repeats.{repeatedInstance, repeatedV, repeatedS~}
 use Rattle.lova.specs.Commit.{commitRules, instanceIn, commitIn}
 use Rattle.lova.specs.Message.{messageRules, preparedIn, messageIn}
@@ -65,7 +65,7 @@ done-told = refl
 module _ (p : Parameters) (f : Profile) (A : List ℕ) (S : List ℤ) (out : Instance) where
   pub commit-told : Told done ((commitIn p f A S out) .answer)
   unfolding commitIn commitRules
-  commit-told = call-told done out (ends done (instanceIn p f A S)) done-told (afterSetting p (commitRules p f A S out)) tt
+  commit-told = call-told done (counted out 0) (ends done (counted (instanceIn p f A S) 1)) done-told (afterSetting p (commitRules p f A S out)) tt
 
 module _ (p : Parameters) (f : Profile) (A : List ℕ) (S₁ S₂ : List ℤ) (out : Prepared) where
   pub message-told : Told done ((messageIn p f A S₁ S₂ out) .answer)
@@ -77,26 +77,28 @@ module _ (p : Parameters) (f : Profile) (S~ : List ℤ) (C : List ℕ) (out : Li
   unfolding witnessIn witnessRules
   witness-told = call-told done out (ends done (foldedWitness p (matrixS~ p .read (repeatedS~ p f S~)) C)) done-told (afterSetting p (witnessRules p f S~ C out)) tt
 
-module _ (p : Parameters) (f : Profile) (I₁ I₂ : Instance) («V» : List ℤ) (out : Instance) where
-  pub join-told : Told done ((joinIn p f I₁ I₂ «V» out) .answer)
+module _ (p : Parameters) (f : Profile) (J₁ J₂ : Counted) («V» : List ℤ) (out : Instance) where
+  pub join-told : Told done ((joinIn p f J₁ J₂ «V» out) .answer)
   unfolding joinIn joinRules
-  join-told = call-told done out (ends done (joinedInstance p I₁ (repeatedInstance p f I₂) (repeatedV p f «V»))) done-told (afterSetting p (joinRules p f I₁ I₂ «V» out)) tt
+  join-told =
+      let joined = joinedInstance p (J₁ .instance) (repeatedInstance p f (J₂ .instance)) (repeatedV p f «V») in
+      call-told done (counted out 0) (ends done (counted joined (J₁ .leaves + J₂ .leaves))) done-told (afterSetting p (joinRules p f J₁ J₂ «V» out)) tt
 
-verdict-words : (within first second : Bool) (before after : Instance) → Told «yes» ((verdictBy within first second before after) .answer)
+verdict-words : (within first second : Bool) (before after : Counted) → Told «yes» ((verdictBy within first second before after) .answer)
 unfolding verdictBy codeOf meaningOf
 verdict-words false first second before after = refl
 verdict-words true false second before after = refl
 verdict-words true true false before after = refl
 verdict-words true true true before after = refl
 
-module _ (p : Parameters) (f : Profile) (I₁ I₂ : Instance) (M : Message) (C : List ℕ) (out : Instance) where
-  judged-told : Told «yes» ((judgedIn p f I₁ I₂ M C out) .answer)
+module _ (p : Parameters) (f : Profile) (J₁ J₂ : Counted) (M : Message) (C : List ℕ) (out : Instance) where
+  judged-told : Told «yes» ((judgedIn p f J₁ J₂ M C out) .answer)
   unfolding judged
-  judged-told = verdict-words _ _ _ out _
+  judged-told = verdict-words _ _ _ (counted out 0) _
 
-  pub verdict-told : Told «yes» ((verdictIn p f I₁ I₂ M C out) .answer)
+  pub verdict-told : Told «yes» ((verdictIn p f J₁ J₂ M C out) .answer)
   unfolding verdictIn verdictAs verdictRulesAs
-  verdict-told = call-told «yes» out (judgedIn p f I₁ I₂ M C out) judged-told (afterSetting p (verdictRules p f I₁ I₂ M C out)) tt
+  verdict-told = call-told «yes» (counted out 0) (judgedIn p f J₁ J₂ M C out) judged-told (afterSetting p (verdictRules p f J₁ J₂ M C out)) tt
 
 member-words : (isShort holdsD holdsT : Bool) → Told member (memberWord isShort holdsD holdsT)
 unfolding memberWord codeOf meaningOf

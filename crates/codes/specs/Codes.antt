@@ -2,9 +2,10 @@
 use mathlib.Core.Bool.{cond}
 use Prim.Native.Nat.{ℕ}
 use lib.Dec.{eqb}
-use Rattle.lova.specs.Answers.{Meaning, done, «yes», norm, commitment, long, products, member, refused, Outcome}
+use Rattle.lova.specs.Answers.{Meaning, done, «yes», norm, commitment, long, products, member, refused, countAfter, Outcome, ends}
+use Rattle.lova.specs.Stored.{Counted, counted}
 
--- 0 for done, yes and member; a refusal's own number, 1 to 12; 100 to 103 for the other words
+-- 0 for done, yes and member; a refusal's own number, 1 to 12 and 15; 100 to 103 for the other words
 unfoldable pub codeOf : Meaning → ℕ
 codeOf done = 0
 codeOf «yes» = 0
@@ -32,3 +33,7 @@ returned c x = record { code = c; outputs = x }
 -- what an operation leaves, with its answer as a code
 abbrev pub coded : {X : Type 0} → Outcome X → Returned X
 coded o = returned (codeOf (o .answer)) (o .outputs)
+
+-- the same where the leaf count has a place of its own, which held this: a refusal leaves it
+abbrev pub placed : ℕ → Outcome Counted → Outcome Counted
+placed before o = ends (o .answer) (counted (o .outputs .instance) (countAfter (o .answer) (o .outputs .leaves) before))

@@ -2,9 +2,10 @@
 ghost use mathlib.Core.Path.{_≡_};
 ghost use Rattle.settings.specs.Settings.{parametersOf};
 ghost use Rattle.settings.specs.HouseList.{parameters};
-ghost use Rattle.lova.specs.Answers.{answerOf, verdictOf, membershipOf};
+ghost use Rattle.lova.specs.Answers.{answerOf, madeOf, madeLeaves, verdictOf, verdictLeaves, membershipOf, countAfter};
 ghost use Rattle.codes.specs.Codes.{codeOf};
 use lova::Answer;
+use lova::Made;
 use lova::Membership;
 use lova::Verdict;
 use settings::Setting;
@@ -35,12 +36,43 @@ pub fn code_of_answer(answer: Answer) -> u8
     }
 }
 
+// The code of commit's and join's answer.
+pub fn code_of_made(made: Made) -> u8
+    ensures { λ r. ⌜ r ≡ codeOf (madeOf made) ⌝ }
+{
+    match made {
+        Made::Done(_) => 0,
+        Made::Refused(number) => number,
+    }
+}
+
+// The leaf count in a place that held `before`, after commit's or join's answer: a refusal leaves it.
+pub fn count_of_made(made: Made, before: u32) -> u32
+    ensures { λ r. ⌜ r ≡ countAfter (madeOf made) (madeLeaves made) before ⌝ }
+{
+    match made {
+        Made::Done(leaves) => leaves,
+        Made::Refused(_) => before,
+    }
+}
+
+// The same after a verdict: 0 without a yes.
+pub fn count_of_verdict(verdict: Verdict, before: u32) -> u32
+    ensures { λ r. ⌜ r ≡ countAfter (verdictOf verdict) (verdictLeaves verdict) before ⌝ }
+{
+    match verdict {
+        Verdict::Yes(leaves) => leaves,
+        Verdict::Refused(_) => before,
+        _ => 0,
+    }
+}
+
 // The code of a verdict.
 pub fn code_of_verdict(verdict: Verdict) -> u8
     ensures { λ r. ⌜ r ≡ codeOf (verdictOf verdict) ⌝ }
 {
     match verdict {
-        Verdict::Yes => 0,
+        Verdict::Yes(_) => 0,
         Verdict::Norm => 100,
         Verdict::Commitment => 101,
         Verdict::Long => 102,

@@ -3,13 +3,13 @@ ghost use mathlib.Core.Path.{_≡_};
 ghost use mathlib.Core.Bool.{_&&_};
 ghost use Rattle.settings.specs.Rules.{firstOf};
 ghost use Rattle.settings.specs.Settings.{parametersOf};
-ghost use Rattle.lova.specs.Answers.{ends, answerOf};
-ghost use Rattle.lova.specs.Stored.{matrixA, rightS};
+ghost use Rattle.lova.specs.Answers.{ends, madeOf, madeLeaves};
+ghost use Rattle.lova.specs.Stored.{counted, matrixA, rightS};
 ghost use Rattle.lova.specs.Lent.{instanceBefore, instanceAfter};
 ghost use Rattle.lova.specs.Tests.{fits, fitsRight};
 ghost use Rattle.lova.specs.Calls.{Rebuilt};
 ghost use Rattle.lova.specs.Commit.{commitRules, commitIn};
-use lova::Answer;
+use lova::Made;
 use lova::Profile;
 use settings::Setting;
 
@@ -58,7 +58,7 @@ fn commit_refusal(
     0
 }
 
-// Writes t = a s modulo 2^64 and d = s-transposed s; a fresh s is one column.
+// Writes t = a s modulo 2^64 and d = s-transposed s; a fresh s is one column. One leaf is under the instance.
 pub fn commit(
     setting: Setting,
     profile: Profile,
@@ -66,22 +66,22 @@ pub fn commit(
     s: &[i64],
     t: &mut [u64],
     d: &mut [i64],
-) -> Answer
-    ensures { λ r. ⌜ ends (answerOf r) (instanceAfter t d)
+) -> Made
+    ensures { λ r. ⌜ ends (madeOf r) (counted (instanceAfter t d) (madeLeaves r))
         ≡ commitIn (parametersOf setting) profile (now (a .entry)) (now (s .entry)) (instanceBefore t d) ⌝ }
 {
     let checked = setting.rebuilt();
     let number = checked.refusal;
     if number != 0 {
-        return Answer::Refused(number);
+        return Made::Refused(number);
     }
     let accepted = checked.setting;
     let own = commit_refusal(accepted, profile, a, s, t, d);
     if own != 0 {
-        return Answer::Refused(own);
+        return Made::Refused(own);
     }
     let right = profile.right(accepted.t);
     word_products::commitment(a, s, accepted.n, accepted.m, right, t);
     cross_products::cross_products(s, s, accepted.m, right, right, d);
-    Answer::Done
+    Made::Done(1)
 }

@@ -20,14 +20,14 @@ use Rattle.states.proofs.Due.{the-type}
 abbrev pub unfinished : List ℕ
 unfinished = 0 ∷ 1 ∷ 2 ∷ 4 ∷ []
 
-pub end-missing : (n : Counts) (d : Due) (p : Parameters) (m : Store) → OneOf unfinished (tagOf the-type d) → endDue n (stageOf d p m) ≡ refusedLine (n .line + 1) 13
+pub end-missing : (n : Counts) (d : Due) (under : ℕ) (p : Parameters) (m : Store) → OneOf unfinished (tagOf the-type d) → endDue n (stageOf d under p m) ≡ refusedLine (n .line + 1) 13
 unfolding stageOf endDue
-end-missing n Dues.Param p m h = refl
-end-missing n Dues.Matrix p m h = refl
-end-missing n Dues.First p m h = refl
-end-missing n Dues.Challenge p m h = refl
-end-missing n Dues.Leaf p m h = absurd (miss unfinished (tagOf the-type Dues.Leaf) tt h)
-end-missing n Dues.Nothing p m h = absurd (miss unfinished (tagOf the-type Dues.Nothing) tt h)
+end-missing n Dues.Param under p m h = refl
+end-missing n Dues.Matrix under p m h = refl
+end-missing n Dues.First under p m h = refl
+end-missing n Dues.Challenge under p m h = refl
+end-missing n Dues.Leaf under p m h = absurd (miss unfinished (tagOf the-type Dues.Leaf) tt h)
+end-missing n Dues.Nothing under p m h = absurd (miss unfinished (tagOf the-type Dues.Nothing) tt h)
 
 module _ (r : Run) (m : Store) (out : List ℕ) where
   pub end-bad : (rest : List ℕ) (t : Taken) → 0 < length rest → stepOf t m out ≡ badLine (countsOf r) (stateOf r m .stage) → take (t .length) out ≡ atEnd (stateOf r m) rest
@@ -35,8 +35,8 @@ module _ (r : Run) (m : Store) (out : List ℕ) where
   end-bad [] t h come = absurd (omega arith)
   end-bad (x ∷ rest) t h come = ap (λ (s : Step). s .output) come
 
-  pub end-due : (rest : List ℕ) (n : ℕ) (d : Due) → length rest ≤ 0 → r .due ≡ d → take n out ≡ endDue (countsOf r) (stageOf d (parametersOf (r .setting)) m)
+  pub end-due : (rest : List ℕ) (n : ℕ) (d : Due) → length rest ≤ 0 → r .due ≡ d → take n out ≡ endDue (countsOf r) (stageOf d (r .under) (parametersOf (r .setting)) m)
       → take n out ≡ atEnd (stateOf r m) rest
   unfolding atEnd
-  end-due [] n d h e is = is ∙ ap (λ (d : Due). endDue (countsOf r) (stageOf d (parametersOf (r .setting)) m)) (sym e)
+  end-due [] n d h e is = is ∙ ap (λ (d : Due). endDue (countsOf r) (stageOf d (r .under) (parametersOf (r .setting)) m)) (sym e)
   end-due (x ∷ rest) n d h e is = absurd (omega arith)

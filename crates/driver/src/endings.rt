@@ -28,10 +28,10 @@ pub(crate) fn end(
     out: &mut [u8],
 ) -> usize
     requires { ⌜ Ready state (now out) ⌝ }
-    requires { ⌜ LentNode (now a) (nodeOf (now t1) (now d1) (now s1)) ⌝ }
+    requires { ⌜ LentNode (now a) (nodeOf (now t1) (now d1) 0 (now s1)) ⌝ }
     ensures { λ r. ⌜ Whatever
         (λ m. take r (now (out .exit))
-        ≡ atEnd (stateOf state (withFirst (nodeBefore t1 d1 s1) (withA (now (a .entry)) m)))
+        ≡ atEnd (stateOf state (withFirst (nodeBefore t1 d1 0 s1) (withA (now (a .entry)) m)))
         (now (rest .entry))) ⌝ }
     ensures { λ r. ⌜ r ≤ 512 ⌝ }
 {

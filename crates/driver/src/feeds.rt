@@ -40,11 +40,11 @@ impl Feed {
         out: &mut [u8],
     ) -> usize
         requires { ⌜ Steady self (now line) × (self .run .line < 2 ^ 62) × Roomy (now out) ⌝ }
-        requires { ⌜ LentNode (now a) (nodeOf (now t1) (now d1) (now s1)) ⌝ }
+        requires { ⌜ LentNode (now a) (nodeOf (now t1) (now d1) 0 (now s1)) ⌝ }
         ensures { λ r. ⌜ Whatever (λ m.
             take r (now (out .exit))
             ≡ feedEnd (feedingOf self (now (line .entry))
-            (withFirst (nodeBefore t1 d1 s1) (withA (now (a .entry)) m)))) ⌝ }
+            (withFirst (nodeBefore t1 d1 0 s1) (withA (now (a .entry)) m)))) ⌝ }
         ensures { λ r. ⌜ r ≤ 512 ⌝ }
     {
         let run = self.run;

@@ -29,7 +29,7 @@ fn finish(
     out: &mut [u8],
 )
     requires { ⌜ Steady feed (now line) × (feed .run .line < 2 ^ 62) × Roomy (now out) ⌝ }
-    requires { ⌜ LentNode (now a) (nodeOf (now t1) (now d1) (now s1)) ⌝ }
+    requires { ⌜ LentNode (now a) (nodeOf (now t1) (now d1) 0 (now s1)) ⌝ }
 {
     if got < 0 {
         io::write_all(2, b"the input cannot be read\n");

@@ -3,7 +3,7 @@
 ghost use mathlib.Core.Path.{_≡_};
 ghost use mathlib.Core.Bool.{true};
 ghost use Rattle.settings.specs.Settings.{parametersOf};
-ghost use Rattle.lova.specs.Answers.{ends, answerOf, verdictOf};
+ghost use Rattle.lova.specs.Answers.{ends, answerOf, verdictOf, verdictLeaves, countAfter};
 ghost use Rattle.lova.specs.Calls.{Rebuilt};
 ghost use Rattle.chain.specs.Limits.{small, programLimits};
 ghost use Rattle.chain.specs.Nodes.{nodeBefore, nodeAfter, foldAnswer, callsOf};
@@ -15,6 +15,7 @@ use settings::Setting;
 // The first of message's, folded witness's and the verdict's answers that refuses, else the verdict's.
 fn fold_answer(said: Answer, folded: Answer, judged: Verdict) -> Verdict
     ensures { λ r. ⌜ verdictOf r ≡ foldAnswer (answerOf said) (answerOf folded) (verdictOf judged) ⌝ }
+    ensures { λ r. ⌜ verdictLeaves r ≡ countAfter (verdictOf r) (verdictLeaves judged) 0 ⌝ }
 {
     match said {
         Answer::Refused(number) => Verdict::Refused(number),
@@ -31,9 +32,11 @@ pub(crate) fn calls(
     a: &[u64],
     t1: &[u64],
     d1: &[i64],
+    leaves1: u32,
     s1: &[i64],
     t2: &[u64],
     d2: &[i64],
+    leaves2: u32,
     s2: &[i64],
     c: &[u8],
     t: &mut [u64],
@@ -43,9 +46,9 @@ pub(crate) fn calls(
     requires { ⌜ Rebuilt setting ⌝ }
     requires { ⌜ small programLimits (parametersOf setting) ≡ true ⌝ }
     ensures { λ r. ⌜
-        ends (verdictOf r) (nodeAfter t d s)
-        ≡ callsOf (parametersOf setting) (now (a .entry)) (nodeBefore t1 d1 s1) (nodeBefore t2 d2 s2)
-        (now (c .entry)) (nodeBefore t d s) ⌝ }
+        ends (verdictOf r) (nodeAfter t d (verdictLeaves r) s)
+        ≡ callsOf (parametersOf setting) (now (a .entry)) (nodeBefore t1 d1 leaves1 s1)
+        (nodeBefore t2 d2 leaves2 s2) (now (c .entry)) (nodeBefore t d 0 s) ⌝ }
 {
     let mut v = [0i64; 4];
     let mut tt = [0u64; 256];
@@ -72,8 +75,10 @@ pub(crate) fn calls(
         Profile::General,
         t1,
         d1,
+        leaves1,
         t2,
         d2,
+        leaves2,
         &v[..size_v],
         &tt[..size_tt],
         &dd[..size_dd],

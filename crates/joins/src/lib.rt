@@ -2,7 +2,8 @@
 ghost use mathlib.Core.Path.{_≡_};
 ghost use Rattle.settings.specs.Rules.{firstOf};
 ghost use Rattle.settings.specs.Settings.{parametersOf};
-ghost use Rattle.lova.specs.Answers.{ends, answerOf};
+ghost use Rattle.lova.specs.Answers.{ends, madeOf, madeLeaves};
+ghost use Rattle.lova.specs.Stored.{counted};
 ghost use Rattle.lova.specs.Lent.{instanceBefore, instanceAfter};
 ghost use Rattle.lova.specs.Tests.{fitsJoined};
 ghost use Rattle.lova.specs.Calls.{Rebuilt};
@@ -11,7 +12,7 @@ ghost use Rattle.lova.specs.Join.{joinRules, joinIn};
 mod joined;
 mod spreads;
 
-use lova::Answer;
+use lova::Made;
 use lova::Profile;
 use settings::Setting;
 
@@ -24,22 +25,24 @@ fn joined_fits(setting: Setting, t: &[u64], d: &[i64]) -> bool
     t.len() == setting.n * wide && d.len() == wide * wide
 }
 
-// 7 where a slice has not the length of its matrix, else 0.
+// 7 where a slice has not the length of its matrix, 15 where the leaf counts cannot be joined, else 0.
 fn join_refusal(
     setting: Setting,
     profile: Profile,
     t1: &[u64],
     d1: &[i64],
+    leaves1: u32,
     t2: &[u64],
     d2: &[i64],
+    leaves2: u32,
     v: &[i64],
     t: &[u64],
     d: &[i64],
 ) -> u8
     requires { ⌜ Rebuilt setting ⌝ }
     ensures { λ r. ⌜ r
-        ≡ firstOf (joinRules (parametersOf setting) profile (instanceBefore t1 d1) (instanceBefore t2 d2)
-        (now (v .entry)) (instanceBefore t d)) ⌝ }
+        ≡ firstOf (joinRules (parametersOf setting) profile (counted (instanceBefore t1 d1) leaves1)
+        (counted (instanceBefore t2 d2) leaves2) (now (v .entry)) (instanceBefore t d)) ⌝ }
 {
     if !scans::instance_fits(setting, Profile::General, t1, d1) {
         return 7;
@@ -54,36 +57,41 @@ fn join_refusal(
     if !joined_fits(setting, t, d) {
         return 7;
     }
+    if !scans::counts_join(leaves1, leaves2) {
+        return 15;
+    }
     0
 }
 
-// Writes the joined t and d of two instances and v.
+// Writes the joined t and d of two instances and v. The leaves under both are under the joined one.
 pub fn join(
     setting: Setting,
     profile: Profile,
     t1: &[u64],
     d1: &[i64],
+    leaves1: u32,
     t2: &[u64],
     d2: &[i64],
+    leaves2: u32,
     v: &[i64],
     t: &mut [u64],
     d: &mut [i64],
-) -> Answer
-    ensures { λ r. ⌜ ends (answerOf r) (instanceAfter t d)
-        ≡ joinIn (parametersOf setting) profile (instanceBefore t1 d1) (instanceBefore t2 d2)
-        (now (v .entry)) (instanceBefore t d) ⌝ }
+) -> Made
+    ensures { λ r. ⌜ ends (madeOf r) (counted (instanceAfter t d) (madeLeaves r))
+        ≡ joinIn (parametersOf setting) profile (counted (instanceBefore t1 d1) leaves1)
+        (counted (instanceBefore t2 d2) leaves2) (now (v .entry)) (instanceBefore t d) ⌝ }
 {
     let checked = setting.rebuilt();
     let number = checked.refusal;
     if number != 0 {
-        return Answer::Refused(number);
+        return Made::Refused(number);
     }
     let accepted = checked.setting;
-    let own = join_refusal(accepted, profile, t1, d1, t2, d2, v, t, d);
+    let own = join_refusal(accepted, profile, t1, d1, leaves1, t2, d2, leaves2, v, t, d);
     if own != 0 {
-        return Answer::Refused(own);
+        return Made::Refused(own);
     }
     joined::write_t(profile, t1, t2, accepted.n, accepted.t, t);
     joined::write_d(accepted, profile, d1, v, d2, d);
-    Answer::Done
+    Made::Done(leaves1 + leaves2)
 }

@@ -17,7 +17,7 @@ use Rattle.settings.specs.Settings.{Parameters, kOf, NOf}
 use Rattle.lova.specs.declared.Profile.{Profile}
 use Rattle.lova.specs.declared.Profile.the-variants.{General, Fresh}
 use Rattle.lova.specs.Answers.{Outcome, ends, «yes», long, norm, commitment}
-use Rattle.lova.specs.Stored.{Instance, Message, rightOf, columnsOf, matrixT, matrixD, matrixS~, rightT, rightD, sentV, sentS~, sentT~, sentD~, readC}
+use Rattle.lova.specs.Stored.{Instance, Counted, counted, Message, rightOf, columnsOf, matrixT, matrixD, matrixS~, rightT, rightD, sentV, sentS~, sentT~, sentD~, readC}
 use Rattle.lova.specs.Tests.{all, equal, equalWords, diagonalWithin}
 use Rattle.lova.specs.Fold.{beside, blocks, gadget}
 use Rattle.lova.specs.Repeats.{challengeIn, repeatedInstance, repeatedS~, meant}
@@ -109,40 +109,47 @@ witness-once p General S~ C = table-cong (pos 0) (p .m) (p .t) _ _ (λ i j hi hj
 witness-once p Fresh S~ C = Repeated.witness-once p S~ C ∙ ap (λ (K : Matrix). table (p .m) (p .t) (product (columnsOf p Fresh) (sentS~ p Fresh .read S~) K)) (challenge-fresh p C)
 
 -- the verdict's answers, by the tests that the code makes one after the other
-module _ (p : Parameters) (f : Profile) (I₁ I₂ : Instance) (M : Message) (C : List ℕ) (out : Instance) (low : 1 ≤ p .t) where
-  abbrev result : Outcome Instance
-  result = judgedIn p f I₁ I₂ M C out
+module _ (p : Parameters) (f : Profile) (J₁ J₂ : Counted) (M : Message) (C : List ℕ) (out : Instance) (low : 1 ≤ p .t) where
+  abbrev result : Outcome Counted
+  result = judgedIn p f J₁ J₂ M C out
 
   abbrev within : Bool
-  within = diagonalsOnce p f I₁ I₂
+  within = diagonalsOnce p f (J₁ .instance) (J₂ .instance)
 
   abbrev first : Bool
-  first = firstOnce p f I₁ I₂ M
+  first = firstOnce p f (J₁ .instance) (J₂ .instance) M
 
   abbrev second : Bool
-  second = secondOnce p f I₁ I₂ M
+  second = secondOnce p f (J₁ .instance) (J₂ .instance) M
 
-  by-tests : result ≡ verdictBy within first second out (foldedInstance p (meant p f M) C)
+  -- the folded instance with its leaf count
+  abbrev folded : Instance → Counted
+  folded I = counted I (J₁ .leaves + J₂ .leaves)
+
+  by-tests : result ≡ verdictBy within first second (counted out 0) (folded (foldedInstance p (meant p f M) C))
   unfolding judged
-  by-tests = rw (within-once p f I₁ I₂ low, first-once p f I₁ I₂ M low, second-once p f I₁ I₂ M low) refl
+  by-tests =
+      let I₁ = J₁ .instance in
+      let I₂ = J₂ .instance in
+      rw (within-once p f I₁ I₂ low, first-once p f I₁ I₂ M low, second-once p f I₁ I₂ M low) refl
 
-  pub long-answer : within ≡ false → ends long out ≡ result
+  pub long-answer : within ≡ false → ends long (counted out 0) ≡ result
   unfolding verdictBy
   long-answer w = sym (by-tests ∙ rw w refl)
 
-  pub norm-answer : within ≡ true → first ≡ false → ends norm out ≡ result
+  pub norm-answer : within ≡ true → first ≡ false → ends norm (counted out 0) ≡ result
   unfolding verdictBy
   norm-answer w a = sym (by-tests ∙ rw (w, a) refl)
 
-  pub commitment-answer : within ≡ true → first ≡ true → second ≡ false → ends commitment out ≡ result
+  pub commitment-answer : within ≡ true → first ≡ true → second ≡ false → ends commitment (counted out 0) ≡ result
   unfolding verdictBy
   commitment-answer w a b = sym (by-tests ∙ rw (w, a, b) refl)
 
   pub yes-answer : within ≡ true → first ≡ true → second ≡ true → (T′ : List ℕ) (D′ : List ℤ)
       → T′ ≡ matrixT p .write (product (columnsOf p f) (sentT~ p f .read (M .T~)) (challengeIn p f C))
       → D′ ≡ matrixD p .write (bothSides (columnsOf p f) (challengeIn p f C) (sentD~ p f .read (M .D~)))
-      → ends «yes» (record { T = T′; D = D′ }) ≡ result
+      → ends «yes» (folded (record { T = T′; D = D′ })) ≡ result
   unfolding verdictBy
   yes-answer w a b T′ D′ t d =
-      ap₂ (λ (x : List ℕ) (y : List ℤ). ends «yes» (record { T = x; D = y })) t d
-      ∙ sym (by-tests ∙ rw (w, a, b) (ap (λ (I : Instance). ends «yes» I) (folded-once p f M C)))
+      ap₂ (λ (x : List ℕ) (y : List ℤ). ends «yes» (folded (record { T = x; D = y }))) t d
+      ∙ sym (by-tests ∙ rw (w, a, b) (ap (λ (I : Instance). ends «yes» (folded I)) (folded-once p f M C)))

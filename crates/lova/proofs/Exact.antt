@@ -3,7 +3,8 @@ use mathlib.Core.Path.{_≡_, refl, sym, _∙_, ap, subst}
 use mathlib.Core.Logic.{_↔_, _⊎_, inl, inr}
 use mathlib.Core.Bool.{Bool, true, false}
 use mathlib.Core.List.{List}
-use Prim.Native.Nat.{ℕ, _<_, _≤_}
+use Prim.Native.Nat.{ℕ, zero, suc, _+_, _<_, _≤_}
+use native.Mathlib.Omega.{arith}
 use lib.Dec.{T, leb→le, le→leb}
 use lib.IntN.{ℤ, pos}
 use lib.Signed.{_≤ℤ_}
@@ -11,18 +12,18 @@ use Rattle.matrices.specs.Matrices.{gram, squaredLength}
 use Rattle.matrices.proofs.Bounds.{gram-diagonal}
 use Rattle.settings.specs.Rules.{firstOf}
 use Rattle.settings.specs.Settings.{Parameters}
-use Rattle.lova.specs.Answers.{afterSetting, «yes», norm, commitment, long, products, member, Outcome, ends}
+use Rattle.lova.specs.Answers.{afterSetting, unlessRefused, done, «yes», norm, commitment, long, products, member, refused, Outcome, ends}
 use Rattle.lova.specs.declared.Profile.{Profile}
 use Rattle.lova.specs.declared.Profile.the-variants.{General}
-use Rattle.lova.specs.Stored.{Instance, Message, matrixS, matrixD}
+use Rattle.lova.specs.Stored.{Instance, Counted, counted, Message, matrixS, matrixD}
 use Rattle.lova.specs.Repeats.{repeatedInstance, Matrices, meant}
 use Rattle.lova.specs.Tests.{short}
-use Rattle.lova.specs.Calls.{Short, ProperRelation, ProperVerdict}
+use Rattle.lova.specs.Calls.{CountsOn, Short, ProperRelation, ProperVerdict}
 use Rattle.lova.specs.Relation.{Related, ProductsAgree, CommitmentAgrees, productsHold, commitmentHolds, memberWord, relation}
-use Rattle.lova.specs.Verdict.{Diagonals, FirstEquation, SecondEquation, diagonalsHold, firstHolds, secondHolds, verdictRules, foldedInstance, verdictBy, judged, verdictAs, verdictIn}
+use Rattle.lova.specs.Verdict.{Diagonals, FirstEquation, SecondEquation, diagonalsHold, firstHolds, secondHolds, verdictRules, foldedInstance, verdictBy, judged, judgedIn, verdictAs, verdictIn}
 use Rattle.lova.proofs.Tests.{equal-iff, equal-words-iff, short-iff, diagonals-iff}
 use Rattle.lova.proofs.Refusals.{Ended, ends-so, untouched, relation-proper, verdict-proper}
-use Rattle.lova.proofs.ThreeTests.{answerBy, rankOf, first-fails, second-fails, third-fails, none-fails, answer-ended}
+use Rattle.lova.proofs.ThreeTests.{answerBy, rankOf, apart, first-fails, second-fails, third-fails, none-fails, answer-ended}
 
 -- norm and products are the second answers of their tests, yes and member the fourth
 norm-second : rankOf norm ≡ 2
@@ -43,7 +44,7 @@ member-fourth = refl
 
 -- ---- the verdict
 
-module _ (before after : Instance) where
+module _ (before after : Counted) where
   verdict-word : (a b c : Bool) → (verdictBy a b c before after) .answer ≡ answerBy norm «yes» a b c
   unfolding verdictBy
   verdict-word true true true = refl
@@ -59,10 +60,28 @@ module _ (before after : Instance) where
   outputs-by true false c = inr refl
   outputs-by false b c = inr refl
 
-module _ (p : Parameters) (f : Profile) (I₁ I₂ : Instance) (M : Message) where
-  -- what is fresh, repeated, and what the message stands for
+  -- the leaf count is the folded instance's on yes, else what it was
+  leaves-by : (a b c : Bool) (r : ℕ) → before .leaves ≡ 0 → CountsOn «yes» (after .leaves) (unlessRefused r before (verdictBy a b c before after))
+  unfolding verdictBy unlessRefused rankOf
+  leaves-by a b c (suc r) none = (apart (refused (suc r)) «yes» (λ e. omega arith), (λ h. none))
+  leaves-by true true true zero none = ((λ e. refl), (λ h. absurd (h refl)))
+  leaves-by true true false zero none = (apart commitment «yes» (λ e. omega arith), (λ h. none))
+  leaves-by true false c zero none = (apart norm «yes» (λ e. omega arith), (λ h. none))
+  leaves-by false b c zero none = (apart long «yes» (λ e. omega arith), (λ h. none))
+
+  -- so for commit and join
+  pub done-leaves : (r : ℕ) → before .leaves ≡ 0 → CountsOn done (after .leaves) (unlessRefused r before (ends done after))
+  unfolding unlessRefused rankOf
+  done-leaves (suc r) none = (apart (refused (suc r)) done (λ e. omega arith), (λ h. none))
+  done-leaves zero none = ((λ e. refl), (λ h. absurd (h refl)))
+
+module _ (p : Parameters) (f : Profile) (J₁ J₂ : Counted) (M : Message) where
+  -- the instances, the second with what is fresh repeated, and what the message stands for
+  abbrev I₁ : Instance
+  I₁ = J₁ .instance
+
   abbrev R₂ : Instance
-  R₂ = repeatedInstance p f I₂
+  R₂ = repeatedInstance p f (J₂ .instance)
 
   abbrev R : Matrices
   R = meant p f M
@@ -86,41 +105,53 @@ module _ (p : Parameters) (f : Profile) (I₁ I₂ : Instance) (M : Message) whe
   second-iff = equal-words-iff _ _ _ _
 
   module _ (C : List ℕ) (out : Instance) where
+    -- what the outputs are without a yes, and with one
+    abbrev before : Counted
+    before = counted out 0
+
+    abbrev after : Counted
+    after = counted (foldedInstance p R C) (J₁ .leaves + J₂ .leaves)
+
     -- what the verdict ends with where no rule applies
-    abbrev result : Outcome Instance
-    result = verdictBy diagonals first second out (foldedInstance p R C)
+    abbrev result : Outcome Counted
+    result = verdictBy diagonals first second before after
 
-    pub verdict-ended : Ended ((judged p I₁ R₂ R C out) .answer)
+    pub verdict-ended : Ended ((judgedIn p f J₁ J₂ M C out) .answer)
     unfolding judged
-    verdict-ended r e = answer-ended norm «yes» norm-second yes-fourth diagonals first second r (sym (verdict-word out (foldedInstance p R C) diagonals first second) ∙ e)
+    verdict-ended r e = answer-ended norm «yes» norm-second yes-fourth diagonals first second r (sym (verdict-word before after diagonals first second) ∙ e)
 
-    -- whenever the answer is not yes, T' and D' are what they were; where it is, they are the folded instance
-    pub verdict-outputs : (verdictIn p f I₁ I₂ M C out ≡ ends «yes» (foldedInstance p R C)) ⊎ ((verdictIn p f I₁ I₂ M C out) .outputs ≡ out)
+    -- whenever the answer is not yes, T' and D' are what they were and the leaf count is 0; where it is, they are the folded
+    -- instance and the count is the sum
+    pub verdict-outputs : (verdictIn p f J₁ J₂ M C out ≡ ends «yes» after) ⊎ ((verdictIn p f J₁ J₂ M C out) .outputs ≡ before)
     unfolding verdictIn verdictAs judged
-    verdict-outputs = go (untouched out _ (firstOf (afterSetting p (verdictRules p f I₁ I₂ M C out))))
+    verdict-outputs = go (untouched before _ (firstOf (afterSetting p (verdictRules p f J₁ J₂ M C out))))
       where
-        go : (verdictIn p f I₁ I₂ M C out ≡ result) ⊎ ((verdictIn p f I₁ I₂ M C out) .outputs ≡ out)
-            → (verdictIn p f I₁ I₂ M C out ≡ ends «yes» (foldedInstance p R C)) ⊎ ((verdictIn p f I₁ I₂ M C out) .outputs ≡ out)
-        go (inl e) = rw e (outputs-by out (foldedInstance p R C) diagonals first second)
+        go : (verdictIn p f J₁ J₂ M C out ≡ result) ⊎ ((verdictIn p f J₁ J₂ M C out) .outputs ≡ before)
+            → (verdictIn p f J₁ J₂ M C out ≡ ends «yes» after) ⊎ ((verdictIn p f J₁ J₂ M C out) .outputs ≡ before)
+        go (inl e) = rw e (outputs-by before after diagonals first second)
         go (inr e) = inr e
 
-    module _ (proper : ProperVerdict p f I₁ I₂ M C out) where
-      says : (verdictIn p f I₁ I₂ M C out) .answer ≡ answerBy norm «yes» diagonals first second
+    pub verdict-leaves : CountsOn «yes» (J₁ .leaves + J₂ .leaves) (verdictIn p f J₁ J₂ M C out)
+    unfolding verdictIn verdictAs judged
+    verdict-leaves = leaves-by before after diagonals first second (firstOf (afterSetting p (verdictRules p f J₁ J₂ M C out))) refl
+
+    module _ (proper : ProperVerdict p f J₁ J₂ M C out) where
+      says : (verdictIn p f J₁ J₂ M C out) .answer ≡ answerBy norm «yes» diagonals first second
       unfolding verdictIn verdictAs judged
       says =
-          ap (λ (o : Outcome Instance). o .answer) (ends-so out _ _ (verdict-proper p f I₁ I₂ M C out .1 proper))
-          ∙ verdict-word out (foldedInstance p R C) diagonals first second
+          ap (λ (o : Outcome Counted). o .answer) (ends-so before _ _ (verdict-proper p f J₁ J₂ M C out .1 proper))
+          ∙ verdict-word before after diagonals first second
 
-      pub yes-exactly : ((verdictIn p f I₁ I₂ M C out) .answer ≡ «yes») ↔ (Diagonals p I₁ R₂ × FirstEquation p I₁ R₂ R × SecondEquation p I₁ R₂ R)
+      pub yes-exactly : ((verdictIn p f J₁ J₂ M C out) .answer ≡ «yes») ↔ (Diagonals p I₁ R₂ × FirstEquation p I₁ R₂ R × SecondEquation p I₁ R₂ R)
       yes-exactly = rw says (none-fails norm «yes» norm-second yes-fourth diagonals first second (diagonals-iff p I₁ R₂) first-iff second-iff)
 
-      pub long-exactly : ((verdictIn p f I₁ I₂ M C out) .answer ≡ long) ↔ (Diagonals p I₁ R₂ → ⊥)
+      pub long-exactly : ((verdictIn p f J₁ J₂ M C out) .answer ≡ long) ↔ (Diagonals p I₁ R₂ → ⊥)
       long-exactly = rw says (first-fails norm «yes» norm-second yes-fourth diagonals first second (diagonals-iff p I₁ R₂))
 
-      pub norm-exactly : ((verdictIn p f I₁ I₂ M C out) .answer ≡ norm) ↔ (Diagonals p I₁ R₂ × (FirstEquation p I₁ R₂ R → ⊥))
+      pub norm-exactly : ((verdictIn p f J₁ J₂ M C out) .answer ≡ norm) ↔ (Diagonals p I₁ R₂ × (FirstEquation p I₁ R₂ R → ⊥))
       norm-exactly = rw says (second-fails norm «yes» norm-second yes-fourth diagonals first second (diagonals-iff p I₁ R₂) first-iff)
 
-      pub commitment-exactly : ((verdictIn p f I₁ I₂ M C out) .answer ≡ commitment) ↔ (Diagonals p I₁ R₂ × FirstEquation p I₁ R₂ R × (SecondEquation p I₁ R₂ R → ⊥))
+      pub commitment-exactly : ((verdictIn p f J₁ J₂ M C out) .answer ≡ commitment) ↔ (Diagonals p I₁ R₂ × FirstEquation p I₁ R₂ R × (SecondEquation p I₁ R₂ R → ⊥))
       commitment-exactly = rw says (third-fails norm «yes» norm-second yes-fourth diagonals first second (diagonals-iff p I₁ R₂) first-iff second-iff)
 
 -- ---- the relation test

@@ -17,9 +17,9 @@ use Rattle.settings.specs.HouseList.{parameters}
 use Rattle.digits.specs.Digits.{stepOf, restOf, digitOf}
 use Rattle.lova.specs.declared.Profile.{Profile}
 use Rattle.lova.specs.declared.Profile.the-variants.{General, Fresh}
-use Rattle.lova.specs.Answers.{done, «yes», norm, commitment, long, member, ends, unlessRefused}
-use Rattle.lova.specs.Stored.{Instance, Message, Prepared}
-use Rattle.lova.specs.Tests.{all, every, eqZ, shortRight, diagonalWithin, areTernary}
+use Rattle.lova.specs.Answers.{done, «yes», norm, commitment, long, member, Outcome, ends, unlessRefused}
+use Rattle.lova.specs.Stored.{Instance, Counted, counted, Message, Prepared}
+use Rattle.lova.specs.Tests.{all, every, eqZ, shortRight, diagonalWithin, areTernary, countsJoin}
 use Rattle.lova.specs.Fold.{beside, above, digitWitness, gadget}
 use Rattle.lova.specs.Repeats.{placeOf}
 use Rattle.lova.specs.Commit.{commitRules, instanceIn, commitIn}
@@ -54,23 +54,28 @@ changed e = record { «V» = e .said .message .«V»; T~ = set (e .said .message
 abbrev lengthened : ℕ → ℕ → Instance → Instance
 lengthened place number I = record { T = I .T; D = set (I .D) place (pos number) }
 
+-- the verdict on two instances with 3 and 4 leaves under them; the outputs held I1
+abbrev judge : Example → Profile → Instance → Instance → Message → Outcome Counted
+judge e f I₁ I₂ M = verdictIn (e .setting) f (counted I₁ 3) (counted I₂ 4) M (e .C) (e .I₁)
+
 -- the tree of two leaves, or of a leaf and a fresh one
 abbrev ofTwo : Profile → List ℤ → List ℤ → List ℕ → Tree
 ofTwo General S₁ S₂ C = fold (leaf S₁) (leaf S₂) C
 ofTwo Fresh S₁ v C = foldFresh (leaf S₁) v C
 
--- all six operations and the plain tree give these values, whatever number x, y the outputs held
+-- all six operations and the plain tree give these values, whatever number x, y the outputs held; join's leaf counts are 3 and 4 too
 record Right (f : Profile) (e : Example) : Type 0 where
-  commits₁ : (x : ℕ) (y : ℤ) → commitIn (e .setting) General (e .A) (e .S₁) (record { T = replicate (length (e .I₁ .T)) x; D = replicate (length (e .I₁ .D)) y }) ≡ ends done (e .I₁)
-  commits₂ : (x : ℕ) (y : ℤ) → commitIn (e .setting) f (e .A) (e .S₂) (record { T = replicate (length (e .I₂ .T)) x; D = replicate (length (e .I₂ .D)) y }) ≡ ends done (e .I₂)
+  commits₁ : (x : ℕ) (y : ℤ) → commitIn (e .setting) General (e .A) (e .S₁) (record { T = replicate (length (e .I₁ .T)) x; D = replicate (length (e .I₁ .D)) y }) ≡ ends done (counted (e .I₁) 1)
+  commits₂ : (x : ℕ) (y : ℤ) → commitIn (e .setting) f (e .A) (e .S₂) (record { T = replicate (length (e .I₂ .T)) x; D = replicate (length (e .I₂ .D)) y }) ≡ ends done (counted (e .I₂) 1)
   messages : messageIn (e .setting) f (e .A) (e .S₁) (e .S₂) (e .said) ≡ ends done (e .said)
-  joins : joinIn (e .setting) f (e .I₁) (e .I₂) (e .said .message .«V») (e .joined) ≡ ends done (e .joined)
-  agrees : verdictIn (e .setting) f (e .I₁) (e .I₂) (e .said .message) (e .C) (e .I₁) ≡ ends «yes» (e .folded)
-  commitment-only : verdictIn (e .setting) f (e .I₁) (e .I₂) (record { «V» = e .said .message .«V»; T~ = set (e .said .message .T~) 1 (e .T~₁); D~ = e .said .message .D~ }) (e .C) (e .I₁) ≡ ends commitment (e .I₁)
-  norm-first : verdictIn (e .setting) f (e .I₁) (e .I₂) (changed e) (e .C) (e .I₁) ≡ ends norm (e .I₁)
-  long-before-norm : verdictIn (e .setting) f (lengthened 0 (suc (e .setting .bound)) (e .I₁)) (e .I₂) (changed e) (e .C) (e .I₁) ≡ ends long (e .I₁)
-  long-second : verdictIn (e .setting) f (e .I₁) (lengthened (length (e .I₂ .D) - 1) (suc (e .setting .bound)) (e .I₂)) (e .said .message) (e .C) (e .I₁) ≡ ends long (e .I₁)
-  border-is-norm : verdictIn (e .setting) f (lengthened 0 (e .setting .bound) (e .I₁)) (e .I₂) (changed e) (e .C) (e .I₁) ≡ ends norm (e .I₁)
+  joins : joinIn (e .setting) f (counted (e .I₁) 3) (counted (e .I₂) 4) (e .said .message .«V») (e .joined) ≡ ends done (counted (e .joined) 7)
+  agrees : judge e f (e .I₁) (e .I₂) (e .said .message) ≡ ends «yes» (counted (e .folded) 7)
+  commitment-only : judge e f (e .I₁) (e .I₂) (record { «V» = e .said .message .«V»; T~ = set (e .said .message .T~) 1 (e .T~₁); D~ = e .said .message .D~ })
+      ≡ ends commitment (counted (e .I₁) 0)
+  norm-first : judge e f (e .I₁) (e .I₂) (changed e) ≡ ends norm (counted (e .I₁) 0)
+  long-before-norm : judge e f (lengthened 0 (suc (e .setting .bound)) (e .I₁)) (e .I₂) (changed e) ≡ ends long (counted (e .I₁) 0)
+  long-second : judge e f (e .I₁) (lengthened (length (e .I₂ .D) - 1) (suc (e .setting .bound)) (e .I₂)) (e .said .message) ≡ ends long (counted (e .I₁) 0)
+  border-is-norm : judge e f (lengthened 0 (e .setting .bound) (e .I₁)) (e .I₂) (changed e) ≡ ends norm (counted (e .I₁) 0)
   folds : witnessIn (e .setting) f (e .said .S~) (e .C) (e .S₁) ≡ ends done (e .S′)
   members : (relation (e .setting) (e .A) (e .folded) (e .S′)) .answer ≡ member
   plain-tree : plain (e .setting) (ofTwo f (e .S₁) (e .S₂) (e .C)) ≡ e .S′
@@ -161,7 +166,7 @@ freshRight = record {
 }
 
 all-right : Right General oneByTwo × Right General evenBase × Right General twoColumns × Right General twoByTwo × Right Fresh freshRight
-unfolding diagonalsHold diagonalWithin build sum sumℕ residue table lower mirrored placeOf ternary firstOf greatest LOf repunit stepOf restOf digitOf unlessRefused all every eqZ shortRight areTernary beside above digitWitness gadget commitRules instanceIn commitIn relationRules productsHold commitmentHolds memberWord relation joinRules joinedInstance joinIn messageRules preparedAs messageIn verdictRulesAs firstHolds secondHolds foldedInstance verdictBy verdictIn verdictAs judged witnessRules foldedWitness witnessIn plain
+unfolding diagonalsHold diagonalWithin countsJoin build sum sumℕ residue table lower mirrored placeOf ternary firstOf greatest LOf repunit stepOf restOf digitOf unlessRefused all every eqZ shortRight areTernary beside above digitWitness gadget commitRules instanceIn commitIn relationRules productsHold commitmentHolds memberWord relation joinRules joinedInstance joinIn messageRules preparedAs messageIn verdictRulesAs firstHolds secondHolds foldedInstance verdictBy verdictIn verdictAs judged witnessRules foldedWitness witnessIn plain
 all-right = (
   record { commits₁ = λ x y. refl; commits₂ = λ x y. refl; messages = refl; joins = refl; agrees = refl; commitment-only = refl; norm-first = refl; long-before-norm = refl; long-second = refl; border-is-norm = refl; folds = refl; members = refl; plain-tree = refl },
   record { commits₁ = λ x y. refl; commits₂ = λ x y. refl; messages = refl; joins = refl; agrees = refl; commitment-only = refl; norm-first = refl; long-before-norm = refl; long-second = refl; border-is-norm = refl; folds = refl; members = refl; plain-tree = refl },

@@ -2,7 +2,7 @@
 use mathlib.Core.Path.{_≡_, refl, sym, _∙_, ap, ap₂}
 use mathlib.Core.Bool.{Bool, true, false, not, _&&_}
 use mathlib.Core.List.{List, [], _∷_}
-use Prim.Native.Nat.{ℕ, zero, suc}
+use Prim.Native.Nat.{ℕ, _+_, zero, suc}
 use native.Mathlib.Omega.{arith}
 use lib.Dec.{T}
 use lib.IntN.{ℤ}
@@ -14,10 +14,10 @@ use Rattle.settings.specs.Settings.{Parameters, settingRefusal, hOf, HOf}
 use Rattle.settings.proofs.Accepted.{accepted}
 use Rattle.lova.specs.declared.Profile.the-variants.{General, Fresh}
 use Rattle.lova.specs.Answers.{afterSetting, done, Outcome, ends, unlessRefused}
-use Rattle.lova.specs.Stored.{Instance, Message, Prepared, sentS~, sentD~, matrixS~, matrixD~}
-use Rattle.lova.specs.Tests.{shortRight, areTernary}
+use Rattle.lova.specs.Stored.{Instance, Counted, counted, Message, Prepared, sentS~, sentD~, matrixS~, matrixD~}
+use Rattle.lova.specs.Tests.{shortRight, areTernary, countsJoin}
 use Rattle.lova.specs.Calls.{CommitLengths, JoinLengths, MessageLengths, VerdictLengths, WitnessLengths}
-use Rattle.lova.specs.Repeats.{repeatedS, repeatedInstance, repeatedV, repeatedMessage, repeatedS~, repeatedPrepared, expanded, meant}
+use Rattle.lova.specs.Repeats.{repeatedS, repeatedInstance, repeatedCounted, repeatedV, repeatedMessage, repeatedS~, repeatedPrepared, expanded, meant}
 use Rattle.lova.specs.Commit.{commitRules, commitIn}
 use Rattle.lova.specs.Join.{joinRules, joinedInstance, joinIn}
 use Rattle.lova.specs.Message.{messageRules, messageIn}
@@ -59,11 +59,11 @@ module _ (p : Parameters) where
       (λ h. short-iff p Fresh v .1 (λ j hj. let z : j ≡ 0 = omega arith in rw z (r .0 (short-iff p General (repeatedS p Fresh v) .0 h))))
 
   pub commit-repeats : (A : List ℕ) (v : List ℤ) (out : Instance) → CommitLengths p Fresh A v out
-      → expanded (repeatedInstance p Fresh) (commitIn p Fresh A v out) ≡ commitIn p General A (repeatedS p Fresh v) (repeatedInstance p Fresh out)
+      → expanded (repeatedCounted p Fresh) (commitIn p Fresh A v out) ≡ commitIn p General A (repeatedS p Fresh v) (repeatedInstance p Fresh out)
   unfolding commitIn commitRules
   commit-repeats A v out l =
-      expands (repeatedInstance p Fresh) _ out _
-      ∙ ap₂ (λ (r : ℕ) (I : Instance). unlessRefused r (repeatedInstance p Fresh out) (ends done I))
+      expands (repeatedCounted p Fresh) _ (counted out 0) _
+      ∙ ap₂ (λ (r : ℕ) (I : Instance). unlessRefused r (counted (repeatedInstance p Fresh out) 0) (ends done (counted I 1)))
       (same-number p (commitRules p Fresh A v out) (commitRules p General A (repeatedS p Fresh v) (repeatedInstance p Fresh out)) (λ ok.
       skips (commitLens p Fresh A v out .test) 7 _ (commitLens p Fresh A v out .says .1 l)
       ∙ ap (λ (c : Bool). firstOf ((not c gives 8) ∷ [])) (short-same ok v)
@@ -71,15 +71,17 @@ module _ (p : Parameters) where
       (commitLens p General A (repeatedS p Fresh v) (repeatedInstance p Fresh out) .says .1 (l .0, length-table _ _ _, (length-table _ _ _, length-table _ _ _))))))
       (BothProfiles.instance-repeats p A Fresh v)
 
-  pub join-repeats : (I₁ I₂ : Instance) («V» : List ℤ) (out : Instance) → JoinLengths p Fresh I₁ I₂ «V» out
-      → joinIn p Fresh I₁ I₂ «V» out ≡ joinIn p General I₁ (repeatedInstance p Fresh I₂) (repeatedV p Fresh «V») out
+  pub join-repeats : (J₁ J₂ : Counted) («V» : List ℤ) (out : Instance) → JoinLengths p Fresh (J₁ .instance) (J₂ .instance) «V» out
+      → joinIn p Fresh J₁ J₂ «V» out ≡ joinIn p General J₁ (repeatedCounted p Fresh J₂) (repeatedV p Fresh «V») out
   unfolding joinIn joinRules
-  join-repeats I₁ I₂ «V» out l =
-      ap (λ (r : ℕ). unlessRefused r out (ends done (joinedInstance p I₁ (repeatedInstance p Fresh I₂) (repeatedV p Fresh «V»))))
-      (same-number p (joinRules p Fresh I₁ I₂ «V» out) (joinRules p General I₁ (repeatedInstance p Fresh I₂) (repeatedV p Fresh «V») out) (λ ok.
-      skips (joinLens p Fresh I₁ I₂ «V» out .test) 7 _ (joinLens p Fresh I₁ I₂ «V» out .says .1 l)
-      ∙ sym (skips (joinLens p General I₁ (repeatedInstance p Fresh I₂) (repeatedV p Fresh «V») out .test) 7 _
-      (joinLens p General I₁ (repeatedInstance p Fresh I₂) (repeatedV p Fresh «V») out .says .1 (l .0, (length-table _ _ _, length-table _ _ _), length-table _ _ _, l .3)))))
+  join-repeats J₁ J₂ «V» out l =
+      let I₁ = J₁ .instance in
+      let R₂ = repeatedInstance p Fresh (J₂ .instance) in
+      ap (λ (r : ℕ). unlessRefused r (counted out 0) (ends done (counted (joinedInstance p I₁ R₂ (repeatedV p Fresh «V»)) (J₁ .leaves + J₂ .leaves))))
+      (same-number p (joinRules p Fresh J₁ J₂ «V» out) (joinRules p General J₁ (repeatedCounted p Fresh J₂) (repeatedV p Fresh «V») out) (λ ok.
+      skips (joinLens p Fresh I₁ (J₂ .instance) «V» out .test) 7 _ (joinLens p Fresh I₁ (J₂ .instance) «V» out .says .1 l)
+      ∙ sym (skips (joinLens p General I₁ R₂ (repeatedV p Fresh «V») out .test) 7 _
+      (joinLens p General I₁ R₂ (repeatedV p Fresh «V») out .says .1 (l .0, (length-table _ _ _, length-table _ _ _), length-table _ _ _, l .3)))))
 
   pub message-repeats : (A : List ℕ) (S₁ v : List ℤ) (out : Prepared) → MessageLengths p Fresh A S₁ v out
       → expanded (repeatedPrepared p Fresh) (messageIn p Fresh A S₁ v out) ≡ messageIn p General A S₁ (repeatedS p Fresh v) (repeatedPrepared p Fresh out)
@@ -94,17 +96,22 @@ module _ (p : Parameters) where
       (messageLens p General A S₁ (repeatedS p Fresh v) (repeatedPrepared p Fresh out) .says .1 (l .0, l .1, length-table _ _ _, ((length-table _ _ _, length-table _ _ _, length-lower _ _), length-table _ _ _))))))
       (ap₂ (λ (M : Message) (S~ : List ℤ). record { message = M; S~ = S~ }) (BothProfiles.message-repeats p A Fresh S₁ v) (BothProfiles.witness-repeats p A Fresh S₁ v))
 
-  pub verdict-repeats : (I₁ I₂ : Instance) (M : Message) (C : List ℕ) (out : Instance) → VerdictLengths p Fresh I₁ I₂ M C out
-      → verdictIn p Fresh I₁ I₂ M C out ≡ verdictIn p General I₁ (repeatedInstance p Fresh I₂) (repeatedMessage p Fresh M) C out
+  pub verdict-repeats : (J₁ J₂ : Counted) (M : Message) (C : List ℕ) (out : Instance) → VerdictLengths p Fresh (J₁ .instance) (J₂ .instance) M C out
+      → verdictIn p Fresh J₁ J₂ M C out ≡ verdictIn p General J₁ (repeatedCounted p Fresh J₂) (repeatedMessage p Fresh M) C out
   unfolding verdictIn verdictAs verdictRulesAs
-  verdict-repeats I₁ I₂ M C out l =
-      ap₂ (λ (r : ℕ) (o : Outcome Instance). unlessRefused r out o)
-      (same-number p (verdictRules p Fresh I₁ I₂ M C out) (verdictRules p General I₁ (repeatedInstance p Fresh I₂) (repeatedMessage p Fresh M) C out) (λ ok.
+  verdict-repeats J₁ J₂ M C out l =
+      let I₁ = J₁ .instance in
+      let I₂ = J₂ .instance in
+      let R₂ = repeatedInstance p Fresh I₂ in
+      let R = repeatedMessage p Fresh M in
+      ap₂ (λ (r : ℕ) (o : Outcome Counted). unlessRefused r (counted out 0) o)
+      (same-number p (verdictRules p Fresh J₁ J₂ M C out) (verdictRules p General J₁ (repeatedCounted p Fresh J₂) R C out) (λ ok.
       skips (verdictLens p Fresh I₁ I₂ M C out .test) 7 _ (verdictLens p Fresh I₁ I₂ M C out .says .1 l)
-      ∙ ap (λ (c : Bool). firstOf ((not (areTernary p C) gives 9) ∷ (not c gives 10) ∷ [])) (same-bound _ _ _ _ (HOf p) (sentD~ p Fresh .read (M .D~)) (matrixD~ p .read (repeatedMessage p Fresh M .D~)) (Repeated.D~-bounds p (accepted p ok .t-low) (HOf p) M))
-      ∙ sym (skips (verdictLens p General I₁ (repeatedInstance p Fresh I₂) (repeatedMessage p Fresh M) C out .test) 7 _
-      (verdictLens p General I₁ (repeatedInstance p Fresh I₂) (repeatedMessage p Fresh M) C out .says .1 (l .0, (length-table _ _ _, length-table _ _ _), (length-table _ _ _, length-table _ _ _, length-lower _ _), l .3, l .4)))))
-      (sym (judged-same p (meant p General (repeatedMessage p Fresh M)) (meant p Fresh M) (Repeated.repeated-means p M) I₁ (repeatedInstance p Fresh I₂) C out))
+      ∙ ap (λ (c : Bool). firstOf ((not (countsJoin (J₁ .leaves) (J₂ .leaves)) gives 15) ∷ (not (areTernary p C) gives 9) ∷ (not c gives 10) ∷ []))
+      (same-bound _ _ _ _ (HOf p) (sentD~ p Fresh .read (M .D~)) (matrixD~ p .read (R .D~)) (Repeated.D~-bounds p (accepted p ok .t-low) (HOf p) M))
+      ∙ sym (skips (verdictLens p General I₁ R₂ R C out .test) 7 _
+      (verdictLens p General I₁ R₂ R C out .says .1 (l .0, (length-table _ _ _, length-table _ _ _), (length-table _ _ _, length-table _ _ _, length-lower _ _), l .3, l .4)))))
+      (sym (judged-same p (meant p General R) (meant p Fresh M) (Repeated.repeated-means p M) J₁ (repeatedCounted p Fresh J₂) C out))
 
   pub witness-repeats : (S~ : List ℤ) (C : List ℕ) (out : List ℤ) → WitnessLengths p Fresh S~ C out
       → witnessIn p Fresh S~ C out ≡ witnessIn p General (repeatedS~ p Fresh S~) C out

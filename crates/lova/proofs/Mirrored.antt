@@ -14,11 +14,11 @@ use Rattle.settings.specs.Settings.{Parameters, NOf, HOf}
 use Rattle.lova.specs.declared.Profile.{Profile}
 use Rattle.lova.specs.declared.Profile.the-variants.{General, Fresh}
 use Rattle.lova.specs.Answers.{afterSetting, Outcome, unlessRefused}
-use Rattle.lova.specs.Stored.{Instance, Message, columnsOf, matrixS, matrixD, rightS, sentV, sentT~, sentD~}
-use Rattle.lova.specs.Tests.{areTernary, bounded, fits, fitsInstance, fitsRight, fitsC}
+use Rattle.lova.specs.Stored.{Instance, Counted, counted, Message, columnsOf, matrixS, matrixD, rightS, sentV, sentT~, sentD~}
+use Rattle.lova.specs.Tests.{areTernary, countsJoin, bounded, fits, fitsInstance, fitsRight, fitsC}
 use Rattle.lova.specs.Calls.{Fits}
 use Rattle.lova.specs.Fold.{beside, blocks, digitWitness, gadget}
-use Rattle.lova.specs.Repeats.{repeatedInstance, Matrices, meantAs, meant}
+use Rattle.lova.specs.Repeats.{repeatedCounted, Matrices, meantAs, meant}
 use Rattle.lova.specs.Message.{preparedAs, preparedIn}
 use Rattle.lova.specs.Verdict.{FirstEquation, verdictRulesAs, verdictAs, verdictIn}
 use Rattle.lova.specs.Squares.{squareD~, mirroredMessage, mirroredPrepared, squarePreparedIn, squareVerdictIn}
@@ -53,18 +53,21 @@ module _ (p : Parameters) (f : Profile) where
   length-same : (M : Message) → Fits (sentD~ p f) (M .D~) → fits (sentD~ p f) (M .D~) ≡ fits (squareD~ p f) (mirroredMessage p f M .D~)
   length-same M l = true-is _ (eqb-iff _ _ .1 l) ∙ sym (true-is _ (eqb-iff _ _ .1 (length-table _ _ _)))
 
-  pub verdict-mirrored : (I₁ I₂ : Instance) (M : Message) (C : List ℕ) (out : Instance) → Fits (sentD~ p f) (M .D~)
-      → verdictIn p f I₁ I₂ M C out ≡ squareVerdictIn p f I₁ I₂ (mirroredMessage p f M) C out
+  pub verdict-mirrored : (J₁ J₂ : Counted) (M : Message) (C : List ℕ) (out : Instance) → Fits (sentD~ p f) (M .D~)
+      → verdictIn p f J₁ J₂ M C out ≡ squareVerdictIn p f J₁ J₂ (mirroredMessage p f M) C out
   unfolding verdictIn verdictAs verdictRulesAs
-  verdict-mirrored I₁ I₂ M C out l =
-      ap₂ (λ (r : ℕ) (o : Outcome Instance). unlessRefused r out o)
+  verdict-mirrored J₁ J₂ M C out l =
+      let I₁ = J₁ .instance in
+      let I₂ = J₂ .instance in
+      ap₂ (λ (r : ℕ) (o : Outcome Counted). unlessRefused r (counted out 0) o)
       (ap₂ (λ (long small : Bool). firstOf (afterSetting p (
       (not (fitsInstance p I₁ && fitsRight p f I₂ && (fits (sentV p f) (M .«V») && fits (sentT~ p f) (M .T~) && long) && fitsC p C && fitsInstance p out) gives 7)
+      ∷ (not (countsJoin (J₁ .leaves) (J₂ .leaves)) gives 15)
       ∷ (not (areTernary p C) gives 9)
       ∷ (not small gives 10)
       ∷ [])))
       (length-same M l) (bounded-same M))
-      (judged-same p (meant p f M) (meantAs p f (squareD~ p f) (mirroredMessage p f M)) (mirrored-means p f M) I₁ (repeatedInstance p f I₂) C out)
+      (judged-same p (meant p f M) (meantAs p f (squareD~ p f) (mirroredMessage p f M)) (mirrored-means p f M) J₁ (repeatedCounted p f J₂) C out)
 
   -- ---- honest messages
 

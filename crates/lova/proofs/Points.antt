@@ -11,9 +11,10 @@ use Rattle.settings.specs.Rules.{firstOf}
 use Rattle.settings.specs.Settings.{greatest, LOf, repunit, settingRefusal}
 use Rattle.digits.specs.Digits.{stepOf, restOf, digitOf}
 use Rattle.lova.specs.Answers.{unlessRefused}
-use Rattle.lova.specs.Tests.{all, every, eqZ, shortRight, diagonalWithin, areTernary}
+use Rattle.lova.specs.Tests.{all, every, eqZ, shortRight, diagonalWithin, areTernary, countsJoin}
 use Rattle.lova.specs.Fold.{beside, above, digitWitness, gadget}
 use Rattle.lova.specs.Commit.{commitRules, instanceIn, commitIn}
+use Rattle.lova.specs.Join.{joinRules, joinedInstance, joinIn}
 use Rattle.lova.specs.Message.{messageRules, preparedAs, messageIn}
 use Rattle.lova.specs.Verdict.{verdictRulesAs, diagonalsHold, firstHolds, secondHolds, foldedInstance, verdictBy, verdictAs, verdictIn, judged}
 use Rattle.lova.specs.Points.{Point, Says, points, In}
@@ -28,7 +29,7 @@ at P x xs h (In.here) = h .0
 at P x xs h (In.there i) = at P x _ (h .1) i
 
 pub every-point : (p : Point) → In p points → Says p
-unfolding Says build sum sumℕ residue table lower mirrored firstOf greatest LOf repunit settingRefusal stepOf restOf digitOf unlessRefused ternary all every eqZ shortRight diagonalWithin areTernary beside above digitWitness gadget commitRules instanceIn commitIn messageRules preparedAs messageIn verdictRulesAs diagonalsHold firstHolds secondHolds foldedInstance verdictBy judged verdictIn verdictAs
+unfolding Says build sum sumℕ residue table lower mirrored firstOf greatest LOf repunit settingRefusal stepOf restOf digitOf unlessRefused ternary all every eqZ shortRight diagonalWithin areTernary countsJoin beside above digitWitness gadget commitRules instanceIn commitIn joinRules joinedInstance joinIn messageRules preparedAs messageIn verdictRulesAs diagonalsHold firstHolds secondHolds foldedInstance verdictBy judged verdictIn verdictAs
 every-point p i = at Says p points (
   (refl, refl, refl, omega arith),
   (
@@ -45,7 +46,7 @@ every-point p i = at Says p points (
               refl,
               (
                 (λ a x y. refl),
-                ((λ a x y. refl), ((λ a x y. refl), ((λ x y. refl), ((λ x y. refl), ((λ x y. refl), ((λ x y. (refl, refl, refl)), ((λ x y. (refl, refl, refl)), ((λ x y. (refl, refl, refl)), tt)))))))),
+                ((λ a x y. refl), ((λ a x y. refl), ((λ x y. refl), ((λ x y. refl), ((λ x y. refl), ((λ x y. (refl, refl, refl)), ((λ x y. (refl, refl, refl)), ((λ x y. (refl, refl, refl)), ((λ x y. (refl, refl, refl, refl)), ((λ x y. (refl, refl, refl, refl)), ((λ x y. (refl, refl, refl, refl)), ((λ x y. (refl, refl, refl, refl)), tt)))))))))))),
               ),
             ),
           ),

@@ -15,16 +15,16 @@ use Rattle.settings.proofs.Rules.{Numbered, first-applies, none-applies, none-a
 use Rattle.lova.specs.Answers.{afterSetting, Meaning, done, refused, Outcome, ends, unlessRefused}
 use Rattle.lova.specs.declared.Profile.{Profile}
 use Rattle.lova.specs.declared.Profile.the-variants.{General}
-use Rattle.lova.specs.Stored.{Stored, Instance, Message, Prepared, columnsOf, matrixA, matrixS, rightS, rightT, rightD, sentV, sentS~, sentT~, sentD~, matrixT, matrixD, joinedT, joinedD}
-use Rattle.lova.specs.Tests.{fits, fitsC, shortRight, areTernary, bounded}
-use Rattle.lova.specs.Calls.{Decided, CommitLengths, RelationLengths, JoinLengths, MessageLengths, VerdictLengths, WitnessLengths, Fits, FitsInstance, FitsRight, FitsJoined, FitsMessage, FitsPrepared, FitsC, Short, ShortRight, Ternary, Bounded, ProperCommit, ProperRelation, ProperJoin, ProperMessage, ProperVerdict, ProperWitness}
+use Rattle.lova.specs.Stored.{Stored, Instance, Counted, Message, Prepared, columnsOf, matrixA, matrixS, rightS, rightT, rightD, sentV, sentS~, sentT~, sentD~, matrixT, matrixD, joinedT, joinedD}
+use Rattle.lova.specs.Tests.{countsJoin, fits, fitsC, shortRight, areTernary, bounded}
+use Rattle.lova.specs.Calls.{CountsJoin, Decided, CommitLengths, RelationLengths, JoinLengths, MessageLengths, VerdictLengths, WitnessLengths, Fits, FitsInstance, FitsRight, FitsJoined, FitsMessage, FitsPrepared, FitsC, Short, ShortRight, Ternary, Bounded, ProperCommit, ProperRelation, ProperJoin, ProperMessage, ProperVerdict, ProperWitness}
 use Rattle.lova.specs.Commit.{commitRules}
 use Rattle.lova.specs.Relation.{relationRules}
 use Rattle.lova.specs.Join.{joinRules}
 use Rattle.lova.specs.Message.{messageRules}
 use Rattle.lova.specs.Verdict.{verdictRulesAs, verdictRules}
 use Rattle.lova.specs.Witness.{witnessRules}
-use Rattle.lova.proofs.Tests.{eqb-iff, short-iff, ternary-iff, bounded-iff}
+use Rattle.lova.proofs.Tests.{counts-iff, eqb-iff, short-iff, ternary-iff, bounded-iff}
 
 -- ---- of any call, by its rules and by what it ends with where none applies
 
@@ -201,6 +201,9 @@ module _ (p : Parameters) where
   abbrev pub decTernary : (C : List ℕ) → Decides (Ternary p C)
   decTernary C = record { test = areTernary p C; says = ternary-iff p C }
 
+  abbrev pub decCounts : (a b : ℕ) → Decides (CountsJoin a b)
+  decCounts a b = record { test = countsJoin a b; says = counts-iff a b }
+
   abbrev pub decBounded : (rows cols M : ℕ) (X : Matrix) → Decides (Bounded rows cols M X)
   decBounded rows cols M X = record { test = bounded rows cols M X; says = bounded-iff rows cols M X }
 
@@ -258,13 +261,14 @@ module _ (p : Parameters) (f : Profile) where
         (λ c. s .1 (c .setting, (shut-rule l (c .lengths), (shut-rule (decShort f S) (c .columns), tt)))),
       )
 
-  pub join-proper : (I₁ I₂ : Instance) («V» : List ℤ) (out : Instance) → (firstOf (afterSetting p (joinRules p f I₁ I₂ «V» out)) ≡ 0) ↔ ProperJoin p f I₁ I₂ «V» out
+  pub join-proper : (J₁ J₂ : Counted) («V» : List ℤ) (out : Instance) → (firstOf (afterSetting p (joinRules p f J₁ J₂ «V» out)) ≡ 0) ↔ ProperJoin p f J₁ J₂ «V» out
   unfolding joinRules
-  join-proper I₁ I₂ «V» out =
+  join-proper J₁ J₂ «V» out =
       let s = of-setting p _ tt in
-      let l = four (decInstance p I₁) (decRight I₂) (decFits p (sentV p f) «V») (decJoined p out) in (
-        (λ e. let h = s .0 e in record { setting = h .0; lengths = open-rule l (h .1 .0) }),
-        (λ c. s .1 (c .setting, (shut-rule l (c .lengths), tt))),
+      let l = four (decInstance p (J₁ .instance)) (decRight (J₂ .instance)) (decFits p (sentV p f) «V») (decJoined p out) in
+      let n = decCounts p (J₁ .leaves) (J₂ .leaves) in (
+        (λ e. let h = s .0 e in record { setting = h .0; lengths = open-rule l (h .1 .0); counts = open-rule n (h .1 .1 .0) }),
+        (λ c. s .1 (c .setting, (shut-rule l (c .lengths), (shut-rule n (c .counts), tt)))),
       )
 
   pub message-proper : (A : List ℕ) (S₁ S₂ : List ℤ) (out : Prepared) → (firstOf (afterSetting p (messageRules p f A S₁ S₂ out)) ≡ 0) ↔ ProperMessage p f A S₁ S₂ out
@@ -277,14 +281,15 @@ module _ (p : Parameters) (f : Profile) where
         (λ c. s .1 (c .setting, (shut-rule l (c .lengths), (shut-rule w (c .columns), tt)))),
       )
 
-  pub verdict-proper : (I₁ I₂ : Instance) (M : Message) (C : List ℕ) (out : Instance) → (firstOf (afterSetting p (verdictRules p f I₁ I₂ M C out)) ≡ 0) ↔ ProperVerdict p f I₁ I₂ M C out
+  pub verdict-proper : (J₁ J₂ : Counted) (M : Message) (C : List ℕ) (out : Instance) → (firstOf (afterSetting p (verdictRules p f J₁ J₂ M C out)) ≡ 0) ↔ ProperVerdict p f J₁ J₂ M C out
   unfolding verdictRulesAs
-  verdict-proper I₁ I₂ M C out =
+  verdict-proper J₁ J₂ M C out =
       let s = of-setting p _ tt in
-      let l = five (decInstance p I₁) (decRight I₂) (decMessage M) (decC p C) (decInstance p out) in
+      let l = five (decInstance p (J₁ .instance)) (decRight (J₂ .instance)) (decMessage M) (decC p C) (decInstance p out) in
+      let n = decCounts p (J₁ .leaves) (J₂ .leaves) in
       let d = decBounded p (columnsOf p f) (columnsOf p f) (HOf p) (sentD~ p f .read (M .D~)) in (
-        (λ e. let h = s .0 e in record { setting = h .0; lengths = open-rule l (h .1 .0); bytes = open-rule (decTernary p C) (h .1 .1 .0); entries = open-rule d (h .1 .1 .1 .0) }),
-        (λ c. s .1 (c .setting, (shut-rule l (c .lengths), (shut-rule (decTernary p C) (c .bytes), (shut-rule d (c .entries), tt))))),
+        (λ e. let h = s .0 e in record { setting = h .0; lengths = open-rule l (h .1 .0); counts = open-rule n (h .1 .1 .0); bytes = open-rule (decTernary p C) (h .1 .1 .1 .0); entries = open-rule d (h .1 .1 .1 .1 .0) }),
+        (λ c. s .1 (c .setting, (shut-rule l (c .lengths), (shut-rule n (c .counts), (shut-rule (decTernary p C) (c .bytes), (shut-rule d (c .entries), tt)))))),
       )
 
   pub witness-proper : (S~ : List ℤ) (C : List ℕ) (out : List ℤ) → (firstOf (afterSetting p (witnessRules p f S~ C out)) ≡ 0) ↔ ProperWitness p f S~ C out
@@ -328,12 +333,21 @@ module _ (p : Parameters) (f : Profile) where
         (λ h. f .1 (h .0, (shut-rule (commitLens A S out) (h .1), tt), h .2)),
       )
 
-  pub join-7 : (I₁ I₂ : Instance) («V» : List ℤ) (out : Instance) → (firstOf (afterSetting p (joinRules p f I₁ I₂ «V» out)) ≡ 7) ↔ ((settingRefusal p ≡ 0) × (JoinLengths p f I₁ I₂ «V» out → ⊥))
+  pub join-7 : (J₁ J₂ : Counted) («V» : List ℤ) (out : Instance) → (firstOf (afterSetting p (joinRules p f J₁ J₂ «V» out)) ≡ 7) ↔ ((settingRefusal p ≡ 0) × (JoinLengths p f (J₁ .instance) (J₂ .instance) «V» out → ⊥))
   unfolding joinRules
-  join-7 I₁ I₂ «V» out =
-      let f = own-number p ([]) (joinLens I₁ I₂ «V» out) 7 ([]) tt tt in (
+  join-7 J₁ J₂ «V» out =
+      let f = own-number p ([]) (joinLens (J₁ .instance) (J₂ .instance) «V» out) 7 ((not ((decCounts p (J₁ .leaves) (J₂ .leaves)) .test) gives 15) ∷ []) tt tt in (
         (λ e. let x = f .0 e in (x .0, x .2)),
         (λ h. f .1 (h .0, tt, h .1)),
+      )
+
+  pub join-15 : (J₁ J₂ : Counted) («V» : List ℤ) (out : Instance) → (firstOf (afterSetting p (joinRules p f J₁ J₂ «V» out)) ≡ 15) ↔ ((settingRefusal p ≡ 0) × JoinLengths p f (J₁ .instance) (J₂ .instance) «V» out × (CountsJoin (J₁ .leaves) (J₂ .leaves) → ⊥))
+  unfolding joinRules
+  join-15 J₁ J₂ «V» out =
+      let l = joinLens (J₁ .instance) (J₂ .instance) «V» out in
+      let f = own-number p ((not (l .test) gives 7) ∷ []) (decCounts p (J₁ .leaves) (J₂ .leaves)) 15 ([]) tt tt in (
+        (λ e. let x = f .0 e in (x .0, open-rule l (x .1 .0), x .2)),
+        (λ h. f .1 (h .0, (shut-rule l (h .1), tt), h .2)),
       )
 
   pub message-7 : (A : List ℕ) (S₁ S₂ : List ℤ) (out : Prepared) → (firstOf (afterSetting p (messageRules p f A S₁ S₂ out)) ≡ 7) ↔ ((settingRefusal p ≡ 0) × (MessageLengths p f A S₁ S₂ out → ⊥))
@@ -352,29 +366,51 @@ module _ (p : Parameters) (f : Profile) where
         (λ h. f .1 (h .0, (shut-rule (messageLens A S₁ S₂ out) (h .1), tt), h .2)),
       )
 
-  pub verdict-7 : (I₁ I₂ : Instance) (M : Message) (C : List ℕ) (out : Instance) → (firstOf (afterSetting p (verdictRules p f I₁ I₂ M C out)) ≡ 7) ↔ ((settingRefusal p ≡ 0) × (VerdictLengths p f I₁ I₂ M C out → ⊥))
-  unfolding verdictRulesAs
-  verdict-7 I₁ I₂ M C out =
-      let f = own-number p ([]) (verdictLens I₁ I₂ M C out) 7 ((not ((decTernary p C) .test) gives 9) ∷ (not ((decBounded p (columnsOf p f) (columnsOf p f) (HOf p) (sentD~ p f .read (M .D~))) .test) gives 10) ∷ []) tt tt in (
-        (λ e. let x = f .0 e in (x .0, x .2)),
-        (λ h. f .1 (h .0, tt, h .1)),
-      )
+  module _ (J₁ J₂ : Counted) (M : Message) (C : List ℕ) (out : Instance) where
+    -- the verdict's own tests, in the order of its rules
+    abbrev lens : Decides (VerdictLengths p f (J₁ .instance) (J₂ .instance) M C out)
+    lens = verdictLens (J₁ .instance) (J₂ .instance) M C out
 
-  pub verdict-9 : (I₁ I₂ : Instance) (M : Message) (C : List ℕ) (out : Instance) → (firstOf (afterSetting p (verdictRules p f I₁ I₂ M C out)) ≡ 9) ↔ ((settingRefusal p ≡ 0) × VerdictLengths p f I₁ I₂ M C out × (Ternary p C → ⊥))
-  unfolding verdictRulesAs
-  verdict-9 I₁ I₂ M C out =
-      let f = own-number p ((not ((verdictLens I₁ I₂ M C out) .test) gives 7) ∷ []) (decTernary p C) 9 ((not ((decBounded p (columnsOf p f) (columnsOf p f) (HOf p) (sentD~ p f .read (M .D~))) .test) gives 10) ∷ []) tt tt in (
-        (λ e. let x = f .0 e in (x .0, open-rule (verdictLens I₁ I₂ M C out) (x .1 .0), x .2)),
-        (λ h. f .1 (h .0, (shut-rule (verdictLens I₁ I₂ M C out) (h .1), tt), h .2)),
-      )
+    abbrev counts : Decides (CountsJoin (J₁ .leaves) (J₂ .leaves))
+    counts = decCounts p (J₁ .leaves) (J₂ .leaves)
 
-  pub verdict-10 : (I₁ I₂ : Instance) (M : Message) (C : List ℕ) (out : Instance) → (firstOf (afterSetting p (verdictRules p f I₁ I₂ M C out)) ≡ 10) ↔ ((settingRefusal p ≡ 0) × VerdictLengths p f I₁ I₂ M C out × Ternary p C × (Bounded (columnsOf p f) (columnsOf p f) (HOf p) (sentD~ p f .read (M .D~)) → ⊥))
-  unfolding verdictRulesAs
-  verdict-10 I₁ I₂ M C out =
-      let f = own-number p ((not ((verdictLens I₁ I₂ M C out) .test) gives 7) ∷ (not ((decTernary p C) .test) gives 9) ∷ []) (decBounded p (columnsOf p f) (columnsOf p f) (HOf p) (sentD~ p f .read (M .D~))) 10 ([]) tt tt in (
-        (λ e. let x = f .0 e in (x .0, open-rule (verdictLens I₁ I₂ M C out) (x .1 .0), open-rule (decTernary p C) (x .1 .1 .0), x .2)),
-        (λ h. f .1 (h .0, (shut-rule (verdictLens I₁ I₂ M C out) (h .1), (shut-rule (decTernary p C) (h .2), tt)), h .3)),
-      )
+    abbrev bytes : Decides (Ternary p C)
+    bytes = decTernary p C
+
+    abbrev entries : Decides (Bounded (columnsOf p f) (columnsOf p f) (HOf p) (sentD~ p f .read (M .D~)))
+    entries = decBounded p (columnsOf p f) (columnsOf p f) (HOf p) (sentD~ p f .read (M .D~))
+
+    pub verdict-7 : (firstOf (afterSetting p (verdictRules p f J₁ J₂ M C out)) ≡ 7) ↔ ((settingRefusal p ≡ 0) × (VerdictLengths p f (J₁ .instance) (J₂ .instance) M C out → ⊥))
+    unfolding verdictRulesAs
+    verdict-7 =
+        let f = own-number p ([]) lens 7 ((not (counts .test) gives 15) ∷ (not (bytes .test) gives 9) ∷ (not (entries .test) gives 10) ∷ []) tt tt in (
+          (λ e. let x = f .0 e in (x .0, x .2)),
+          (λ h. f .1 (h .0, tt, h .1)),
+        )
+
+    pub verdict-15 : (firstOf (afterSetting p (verdictRules p f J₁ J₂ M C out)) ≡ 15) ↔ ((settingRefusal p ≡ 0) × VerdictLengths p f (J₁ .instance) (J₂ .instance) M C out × (CountsJoin (J₁ .leaves) (J₂ .leaves) → ⊥))
+    unfolding verdictRulesAs
+    verdict-15 =
+        let f = own-number p ((not (lens .test) gives 7) ∷ []) counts 15 ((not (bytes .test) gives 9) ∷ (not (entries .test) gives 10) ∷ []) tt tt in (
+          (λ e. let x = f .0 e in (x .0, open-rule lens (x .1 .0), x .2)),
+          (λ h. f .1 (h .0, (shut-rule lens (h .1), tt), h .2)),
+        )
+
+    pub verdict-9 : (firstOf (afterSetting p (verdictRules p f J₁ J₂ M C out)) ≡ 9) ↔ ((settingRefusal p ≡ 0) × VerdictLengths p f (J₁ .instance) (J₂ .instance) M C out × CountsJoin (J₁ .leaves) (J₂ .leaves) × (Ternary p C → ⊥))
+    unfolding verdictRulesAs
+    verdict-9 =
+        let f = own-number p ((not (lens .test) gives 7) ∷ (not (counts .test) gives 15) ∷ []) bytes 9 ((not (entries .test) gives 10) ∷ []) tt tt in (
+          (λ e. let x = f .0 e in (x .0, open-rule lens (x .1 .0), open-rule counts (x .1 .1 .0), x .2)),
+          (λ h. f .1 (h .0, (shut-rule lens (h .1), (shut-rule counts (h .2), tt)), h .3)),
+        )
+
+    pub verdict-10 : (firstOf (afterSetting p (verdictRules p f J₁ J₂ M C out)) ≡ 10) ↔ ((settingRefusal p ≡ 0) × VerdictLengths p f (J₁ .instance) (J₂ .instance) M C out × CountsJoin (J₁ .leaves) (J₂ .leaves) × Ternary p C × (Bounded (columnsOf p f) (columnsOf p f) (HOf p) (sentD~ p f .read (M .D~)) → ⊥))
+    unfolding verdictRulesAs
+    verdict-10 =
+        let f = own-number p ((not (lens .test) gives 7) ∷ (not (counts .test) gives 15) ∷ (not (bytes .test) gives 9) ∷ []) entries 10 ([]) tt tt in (
+          (λ e. let x = f .0 e in (x .0, open-rule lens (x .1 .0), open-rule counts (x .1 .1 .0), open-rule bytes (x .1 .1 .1 .0), x .2)),
+          (λ h. f .1 (h .0, (shut-rule lens (h .1), (shut-rule counts (h .2), (shut-rule bytes (h .3), tt))), h .4)),
+        )
 
   pub witness-7 : (S~ : List ℤ) (C : List ℕ) (out : List ℤ) → (firstOf (afterSetting p (witnessRules p f S~ C out)) ≡ 7) ↔ ((settingRefusal p ≡ 0) × (WitnessLengths p f S~ C out → ⊥))
   unfolding witnessRules

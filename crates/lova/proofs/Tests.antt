@@ -3,7 +3,7 @@ use mathlib.Core.Path.{_≡_, ap}
 use mathlib.Core.Logic.{_↔_, _⊎_, inl, inr, ⊎-elim}
 use mathlib.Core.Bool.{Bool, true, false, not, _&&_}
 use mathlib.Core.List.{List}
-use Prim.Native.Nat.{ℕ, zero, suc, _*_, _/_, _%_, _<_, _≤_}
+use Prim.Native.Nat.{ℕ, zero, suc, _+_, _*_, _/_, _%_, _<_, _≤_}
 use native.Mathlib.Omega.{arith}
 use native.Mathlib.Nat.{eq-or-lt-of-le, le-of-suc-le-suc, div-add-mod', div-lt-iff-lt-mul, mod-lt}
 use lib.Dec.{T, not-T, eqb, leb, leb→le, le→leb, lt→ltb, nleb→lt, eqb→eq, eqb-refl}
@@ -19,9 +19,9 @@ use Rattle.matrices.specs.Triangles.{triangular, mirrored}
 use Rattle.matrices.proofs.Triangles.{mirrored-bounds}
 use Rattle.settings.specs.Settings.{Parameters, NOf}
 use Rattle.lova.specs.declared.Profile.{Profile}
-use Rattle.lova.specs.Stored.{Instance, rightOf}
-use Rattle.lova.specs.Tests.{all, every, eqZ, equal, equalWords, shortRight, diagonalWithin, areTernary, bounded}
-use Rattle.lova.specs.Calls.{ShortRight, DiagonalWithin, DiagonalLong, Ternary, Bounded}
+use Rattle.lova.specs.Stored.{Instance, mostLeaves, rightOf}
+use Rattle.lova.specs.Tests.{all, every, eqZ, equal, equalWords, shortRight, diagonalWithin, areTernary, countsJoin, bounded}
+use Rattle.lova.specs.Calls.{ShortRight, DiagonalWithin, DiagonalLong, Ternary, CountsJoin, Bounded}
 use Rattle.lova.specs.Verdict.{Diagonals, diagonalsHold}
 
 -- of two tests one fails
@@ -99,6 +99,17 @@ bounded-iff rows cols M X = (
   (λ h i j hi hj. leb→le _ _ (every-iff rows cols _ .0 h i j hi hj)),
   (λ h. every-iff rows cols _ .1 (λ i j hi hj. le→leb _ _ (h i j hi hj))),
 )
+
+-- two leaf counts can be joined
+pub counts-iff : (a b : ℕ) → T (countsJoin a b) ↔ CountsJoin a b
+unfolding countsJoin
+counts-iff a b =
+    let none = leb 1 a && leb 1 b in
+    let most = leb (a + b) mostLeaves in (
+      (λ h. let x = and-fst none most h in
+          (leb→le 1 a (and-fst (leb 1 a) (leb 1 b) x), leb→le 1 b (and-snd (leb 1 a) (leb 1 b) x), leb→le (a + b) mostLeaves (and-snd none most h))),
+      (λ h. and-both none most (and-both (leb 1 a) (leb 1 b) (le→leb 1 a (h .0)) (le→leb 1 b (h .1))) (le→leb (a + b) mostLeaves (h .2))),
+    )
 
 -- a number that is not at most B exceeds it
 beyond : (z : ℤ) (B : ℕ) → T (not (leZ z (pos B))) → pos B <ℤ z

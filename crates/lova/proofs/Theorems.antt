@@ -1,6 +1,6 @@
 -- What the library promises, in one place. These are theorems about the definitions of specs/, and each operation's contract is
 -- the equation with the same definition, for all inputs.
-use mathlib.Core.Path.{_≡_}
+use mathlib.Core.Path.{_≡_, refl, ap}
 use mathlib.Core.Logic.{_↔_, _⊎_, _≢_}
 use mathlib.Core.Bool.{cond}
 use mathlib.Core.List.{List}
@@ -18,9 +18,9 @@ use Rattle.digits.proofs.Steps.{by-arithmetic, by-carry}
 use Rattle.lova.specs.Answers.{afterSetting, done, «yes», norm, commitment, long, products, member, refused, ends}
 use Rattle.lova.specs.declared.Profile.{Profile}
 use Rattle.lova.specs.declared.Profile.the-variants.{General, Fresh}
-use Rattle.lova.specs.Stored.{Instance, Message, Prepared, matrixA, matrixD, matrixS~, columnsOf, sentS~, sentD~}
-use Rattle.lova.specs.Repeats.{repeatedS, repeatedInstance, repeatedMessage, repeatedV, repeatedS~, repeatedPrepared, Matrices, meant, expanded}
-use Rattle.lova.specs.Calls.{CommitLengths, RelationLengths, JoinLengths, MessageLengths, VerdictLengths, WitnessLengths, Fits, Short, ShortRight, DiagonalWithin, DiagonalLong, Ternary, Bounded, Decided, ProperCommit, ProperRelation, ProperJoin, ProperMessage, ProperVerdict, ProperWitness}
+use Rattle.lova.specs.Stored.{Instance, Counted, counted, mostLeaves, Message, Prepared, matrixA, matrixD, matrixS~, columnsOf, sentS~, sentD~}
+use Rattle.lova.specs.Repeats.{repeatedS, repeatedInstance, repeatedCounted, repeatedMessage, repeatedV, repeatedS~, repeatedPrepared, Matrices, meant, expanded}
+use Rattle.lova.specs.Calls.{CommitLengths, RelationLengths, JoinLengths, MessageLengths, VerdictLengths, WitnessLengths, Fits, Short, ShortRight, DiagonalWithin, DiagonalLong, Ternary, CountsJoin, Bounded, Decided, CountsOn, ProperCommit, ProperRelation, ProperJoin, ProperMessage, ProperVerdict, ProperWitness}
 use Rattle.lova.specs.Tests.{short}
 use Rattle.lova.specs.Commit.{commitRules, instanceIn, commitIn}
 use Rattle.lova.specs.Relation.{Related, relationRules, ProductsAgree, CommitmentAgrees, memberWord, productsHold, commitmentHolds, relation}
@@ -29,7 +29,7 @@ use Rattle.lova.specs.Message.{messageRules, preparedIn, messageIn}
 use Rattle.lova.specs.Verdict.{Diagonals, FirstEquation, SecondEquation, verdictRulesAs, verdictRules, foldedInstance, judgedIn, verdictAs, verdictIn}
 use Rattle.lova.specs.Squares.{squareD~, mirroredMessage, mirroredPrepared, squarePreparedIn, squareVerdictIn}
 use Rattle.lova.specs.Witness.{witnessRules, foldedWitness, witnessIn}
-use Rattle.lova.specs.Trees.{Tree, Proper, Held, HeldFits, Honest}
+use Rattle.lova.specs.Trees.{Tree, leavesOf, Proper, seen, viewOf, Held, HeldFits, Honest}
 use Rattle.lova.proofs.Tests.{long-iff}
 use Rattle.lova.proofs.Refusals as Refusals
 use Rattle.lova.proofs.Refusals.{refused-by, done-ended, decides, commit-proper, relation-proper, join-proper, message-proper, verdict-proper, witness-proper}
@@ -46,25 +46,26 @@ module _ (p : Parameters) (f : Profile) where
   -- ---- demand 1: a proper call ends with its whole answer, every other is refused with the first number that applies
 
   pub commit-decided : (A : List ℕ) (S : List ℤ) (out : Instance)
-      → Decided (commitIn p f A S out) out (ends done (instanceIn p f A S)) (afterSetting p (commitRules p f A S out)) (ProperCommit p f A S out)
+      → Decided (commitIn p f A S out) (counted out 0) (ends done (counted (instanceIn p f A S) 1)) (afterSetting p (commitRules p f A S out)) (ProperCommit p f A S out)
   unfolding commitIn commitRules
-  commit-decided A S out = decides out _ _ _ tt done-ended (commit-proper p f A S out)
+  commit-decided A S out = decides (counted out 0) _ _ _ tt done-ended (commit-proper p f A S out)
 
-  pub join-decided : (I₁ I₂ : Instance) («V» : List ℤ) (out : Instance)
-      → Decided (joinIn p f I₁ I₂ «V» out) out (ends done (joinedInstance p I₁ (repeatedInstance p f I₂) (repeatedV p f «V»))) (afterSetting p (joinRules p f I₁ I₂ «V» out)) (ProperJoin p f I₁ I₂ «V» out)
+  pub join-decided : (J₁ J₂ : Counted) («V» : List ℤ) (out : Instance)
+      → Decided (joinIn p f J₁ J₂ «V» out) (counted out 0) (ends done (counted (joinedInstance p (J₁ .instance) (repeatedInstance p f (J₂ .instance)) (repeatedV p f «V»)) (J₁ .leaves + J₂ .leaves)))
+      (afterSetting p (joinRules p f J₁ J₂ «V» out)) (ProperJoin p f J₁ J₂ «V» out)
   unfolding joinIn joinRules
-  join-decided I₁ I₂ «V» out = decides out _ _ _ tt done-ended (join-proper p f I₁ I₂ «V» out)
+  join-decided J₁ J₂ «V» out = decides (counted out 0) _ _ _ tt done-ended (join-proper p f J₁ J₂ «V» out)
 
   pub message-decided : (A : List ℕ) (S₁ S₂ : List ℤ) (out : Prepared)
       → Decided (messageIn p f A S₁ S₂ out) out (ends done (preparedIn p f A S₁ S₂)) (afterSetting p (messageRules p f A S₁ S₂ out)) (ProperMessage p f A S₁ S₂ out)
   unfolding messageIn messageRules
   message-decided A S₁ S₂ out = decides out _ _ _ tt done-ended (message-proper p f A S₁ S₂ out)
 
-  pub verdict-decided : (I₁ I₂ : Instance) (M : Message) (C : List ℕ) (out : Instance)
-      → Decided (verdictIn p f I₁ I₂ M C out) out (judgedIn p f I₁ I₂ M C out)
-      (afterSetting p (verdictRules p f I₁ I₂ M C out)) (ProperVerdict p f I₁ I₂ M C out)
+  pub verdict-decided : (J₁ J₂ : Counted) (M : Message) (C : List ℕ) (out : Instance)
+      → Decided (verdictIn p f J₁ J₂ M C out) (counted out 0) (judgedIn p f J₁ J₂ M C out)
+      (afterSetting p (verdictRules p f J₁ J₂ M C out)) (ProperVerdict p f J₁ J₂ M C out)
   unfolding verdictIn verdictAs verdictRulesAs
-  verdict-decided I₁ I₂ M C out = decides out _ _ _ tt (Exact.verdict-ended p f I₁ I₂ M C out) (verdict-proper p f I₁ I₂ M C out)
+  verdict-decided J₁ J₂ M C out = decides (counted out 0) _ _ _ tt (Exact.verdict-ended p f J₁ J₂ M C out) (verdict-proper p f J₁ J₂ M C out)
 
   pub witness-decided : (S~ : List ℤ) (C : List ℕ) (out : List ℤ)
       → Decided (witnessIn p f S~ C out) out (ends done (foldedWitness p (matrixS~ p .read (repeatedS~ p f S~)) C)) (afterSetting p (witnessRules p f S~ C out)) (ProperWitness p f S~ C out)
@@ -75,15 +76,19 @@ module _ (p : Parameters) (f : Profile) where
 
   pub commit-7 : (A : List ℕ) (S : List ℤ) (out : Instance) → ((commitIn p f A S out) .answer ≡ refused 7) ↔ ((settingRefusal p ≡ 0) × (CommitLengths p f A S out → ⊥))
   unfolding commitIn
-  commit-7 A S out = via (refused-by out _ done-ended _ 7 (λ z. omega arith)) (Refusals.commit-7 p f A S out)
+  commit-7 A S out = via (refused-by (counted out 0) _ done-ended _ 7 (λ z. omega arith)) (Refusals.commit-7 p f A S out)
 
   pub commit-8 : (A : List ℕ) (S : List ℤ) (out : Instance) → ((commitIn p f A S out) .answer ≡ refused 8) ↔ ((settingRefusal p ≡ 0) × CommitLengths p f A S out × (ShortRight p f S → ⊥))
   unfolding commitIn
-  commit-8 A S out = via (refused-by out _ done-ended _ 8 (λ z. omega arith)) (Refusals.commit-8 p f A S out)
+  commit-8 A S out = via (refused-by (counted out 0) _ done-ended _ 8 (λ z. omega arith)) (Refusals.commit-8 p f A S out)
 
-  pub join-7 : (I₁ I₂ : Instance) («V» : List ℤ) (out : Instance) → ((joinIn p f I₁ I₂ «V» out) .answer ≡ refused 7) ↔ ((settingRefusal p ≡ 0) × (JoinLengths p f I₁ I₂ «V» out → ⊥))
+  pub join-7 : (J₁ J₂ : Counted) («V» : List ℤ) (out : Instance) → ((joinIn p f J₁ J₂ «V» out) .answer ≡ refused 7) ↔ ((settingRefusal p ≡ 0) × (JoinLengths p f (J₁ .instance) (J₂ .instance) «V» out → ⊥))
   unfolding joinIn
-  join-7 I₁ I₂ «V» out = via (refused-by out _ done-ended _ 7 (λ z. omega arith)) (Refusals.join-7 p f I₁ I₂ «V» out)
+  join-7 J₁ J₂ «V» out = via (refused-by (counted out 0) _ done-ended _ 7 (λ z. omega arith)) (Refusals.join-7 p f J₁ J₂ «V» out)
+
+  pub join-15 : (J₁ J₂ : Counted) («V» : List ℤ) (out : Instance) → ((joinIn p f J₁ J₂ «V» out) .answer ≡ refused 15) ↔ ((settingRefusal p ≡ 0) × JoinLengths p f (J₁ .instance) (J₂ .instance) «V» out × (CountsJoin (J₁ .leaves) (J₂ .leaves) → ⊥))
+  unfolding joinIn
+  join-15 J₁ J₂ «V» out = via (refused-by (counted out 0) _ done-ended _ 15 (λ z. omega arith)) (Refusals.join-15 p f J₁ J₂ «V» out)
 
   pub message-7 : (A : List ℕ) (S₁ S₂ : List ℤ) (out : Prepared) → ((messageIn p f A S₁ S₂ out) .answer ≡ refused 7) ↔ ((settingRefusal p ≡ 0) × (MessageLengths p f A S₁ S₂ out → ⊥))
   unfolding messageIn
@@ -93,17 +98,21 @@ module _ (p : Parameters) (f : Profile) where
   unfolding messageIn
   message-8 A S₁ S₂ out = via (refused-by out _ done-ended _ 8 (λ z. omega arith)) (Refusals.message-8 p f A S₁ S₂ out)
 
-  pub verdict-7 : (I₁ I₂ : Instance) (M : Message) (C : List ℕ) (out : Instance) → ((verdictIn p f I₁ I₂ M C out) .answer ≡ refused 7) ↔ ((settingRefusal p ≡ 0) × (VerdictLengths p f I₁ I₂ M C out → ⊥))
+  pub verdict-7 : (J₁ J₂ : Counted) (M : Message) (C : List ℕ) (out : Instance) → ((verdictIn p f J₁ J₂ M C out) .answer ≡ refused 7) ↔ ((settingRefusal p ≡ 0) × (VerdictLengths p f (J₁ .instance) (J₂ .instance) M C out → ⊥))
   unfolding verdictIn verdictAs
-  verdict-7 I₁ I₂ M C out = via (refused-by out _ (Exact.verdict-ended p f I₁ I₂ M C out) _ 7 (λ z. omega arith)) (Refusals.verdict-7 p f I₁ I₂ M C out)
+  verdict-7 J₁ J₂ M C out = via (refused-by (counted out 0) _ (Exact.verdict-ended p f J₁ J₂ M C out) _ 7 (λ z. omega arith)) (Refusals.verdict-7 p f J₁ J₂ M C out)
 
-  pub verdict-9 : (I₁ I₂ : Instance) (M : Message) (C : List ℕ) (out : Instance) → ((verdictIn p f I₁ I₂ M C out) .answer ≡ refused 9) ↔ ((settingRefusal p ≡ 0) × VerdictLengths p f I₁ I₂ M C out × (Ternary p C → ⊥))
+  pub verdict-15 : (J₁ J₂ : Counted) (M : Message) (C : List ℕ) (out : Instance) → ((verdictIn p f J₁ J₂ M C out) .answer ≡ refused 15) ↔ ((settingRefusal p ≡ 0) × VerdictLengths p f (J₁ .instance) (J₂ .instance) M C out × (CountsJoin (J₁ .leaves) (J₂ .leaves) → ⊥))
   unfolding verdictIn verdictAs
-  verdict-9 I₁ I₂ M C out = via (refused-by out _ (Exact.verdict-ended p f I₁ I₂ M C out) _ 9 (λ z. omega arith)) (Refusals.verdict-9 p f I₁ I₂ M C out)
+  verdict-15 J₁ J₂ M C out = via (refused-by (counted out 0) _ (Exact.verdict-ended p f J₁ J₂ M C out) _ 15 (λ z. omega arith)) (Refusals.verdict-15 p f J₁ J₂ M C out)
 
-  pub verdict-10 : (I₁ I₂ : Instance) (M : Message) (C : List ℕ) (out : Instance) → ((verdictIn p f I₁ I₂ M C out) .answer ≡ refused 10) ↔ ((settingRefusal p ≡ 0) × VerdictLengths p f I₁ I₂ M C out × Ternary p C × (Bounded (columnsOf p f) (columnsOf p f) (HOf p) (sentD~ p f .read (M .D~)) → ⊥))
+  pub verdict-9 : (J₁ J₂ : Counted) (M : Message) (C : List ℕ) (out : Instance) → ((verdictIn p f J₁ J₂ M C out) .answer ≡ refused 9) ↔ ((settingRefusal p ≡ 0) × VerdictLengths p f (J₁ .instance) (J₂ .instance) M C out × CountsJoin (J₁ .leaves) (J₂ .leaves) × (Ternary p C → ⊥))
   unfolding verdictIn verdictAs
-  verdict-10 I₁ I₂ M C out = via (refused-by out _ (Exact.verdict-ended p f I₁ I₂ M C out) _ 10 (λ z. omega arith)) (Refusals.verdict-10 p f I₁ I₂ M C out)
+  verdict-9 J₁ J₂ M C out = via (refused-by (counted out 0) _ (Exact.verdict-ended p f J₁ J₂ M C out) _ 9 (λ z. omega arith)) (Refusals.verdict-9 p f J₁ J₂ M C out)
+
+  pub verdict-10 : (J₁ J₂ : Counted) (M : Message) (C : List ℕ) (out : Instance) → ((verdictIn p f J₁ J₂ M C out) .answer ≡ refused 10) ↔ ((settingRefusal p ≡ 0) × VerdictLengths p f (J₁ .instance) (J₂ .instance) M C out × CountsJoin (J₁ .leaves) (J₂ .leaves) × Ternary p C × (Bounded (columnsOf p f) (columnsOf p f) (HOf p) (sentD~ p f .read (M .D~)) → ⊥))
+  unfolding verdictIn verdictAs
+  verdict-10 J₁ J₂ M C out = via (refused-by (counted out 0) _ (Exact.verdict-ended p f J₁ J₂ M C out) _ 10 (λ z. omega arith)) (Refusals.verdict-10 p f J₁ J₂ M C out)
 
   pub witness-7 : (S~ : List ℤ) (C : List ℕ) (out : List ℤ) → ((witnessIn p f S~ C out) .answer ≡ refused 7) ↔ ((settingRefusal p ≡ 0) × (WitnessLengths p f S~ C out → ⊥))
   unfolding witnessIn
@@ -119,60 +128,78 @@ module _ (p : Parameters) (f : Profile) where
 
   -- ---- demand 2: the verdict on a message from anyone, for a proper call
 
-  module _ (I₁ I₂ : Instance) (M : Message) (C : List ℕ) (out : Instance) where
-    -- all that is fresh, repeated, and what the message stands for
+  module _ (J₁ J₂ : Counted) (M : Message) (C : List ℕ) (out : Instance) where
+    -- the two instances, all that is fresh repeated, and what the message stands for
+    abbrev I₁ : Instance
+    I₁ = J₁ .instance
+
     abbrev R₂ : Instance
-    R₂ = repeatedInstance p f I₂
+    R₂ = repeatedInstance p f (J₂ .instance)
 
     abbrev R : Matrices
     R = meant p f M
 
-    -- whenever the answer is not yes, T' and D' are what they were; where it is yes, they are the folded instance
-    pub verdict-writes : (verdictIn p f I₁ I₂ M C out ≡ ends «yes» (foldedInstance p R C)) ⊎ ((verdictIn p f I₁ I₂ M C out) .outputs ≡ out)
-    verdict-writes = Exact.verdict-outputs p f I₁ I₂ M C out
+    -- whenever the answer is not yes, T' and D' are what they were and the leaf count is 0; where it is yes, they are the folded
+    -- instance and the count is the sum
+    pub verdict-writes : (verdictIn p f J₁ J₂ M C out ≡ ends «yes» (counted (foldedInstance p R C) (J₁ .leaves + J₂ .leaves))) ⊎ ((verdictIn p f J₁ J₂ M C out) .outputs ≡ counted out 0)
+    verdict-writes = Exact.verdict-outputs p f J₁ J₂ M C out
 
-    module _ (proper : ProperVerdict p f I₁ I₂ M C out) where
+    -- request 5: the count is the sum with a yes, and 0 without
+    pub verdict-leaves : CountsOn «yes» (J₁ .leaves + J₂ .leaves) (verdictIn p f J₁ J₂ M C out)
+    verdict-leaves = Exact.verdict-leaves p f J₁ J₂ M C out
+
+    module _ (proper : ProperVerdict p f J₁ J₂ M C out) where
       -- yes if and only if the diagonals are within B and both equations hold
-      pub verdict-yes : ((verdictIn p f I₁ I₂ M C out) .answer ≡ «yes») ↔ (Diagonals p I₁ R₂ × FirstEquation p I₁ R₂ R × SecondEquation p I₁ R₂ R)
-      verdict-yes = Exact.yes-exactly p f I₁ I₂ M C out proper
+      pub verdict-yes : ((verdictIn p f J₁ J₂ M C out) .answer ≡ «yes») ↔ (Diagonals p I₁ R₂ × FirstEquation p I₁ R₂ R × SecondEquation p I₁ R₂ R)
+      verdict-yes = Exact.yes-exactly p f J₁ J₂ M C out proper
 
       -- long if and only if they are not, that is, if and only if a diagonal entry of D1 or D2 exceeds B
-      pub verdict-long : ((verdictIn p f I₁ I₂ M C out) .answer ≡ long) ↔ (Diagonals p I₁ R₂ → ⊥)
-      verdict-long = Exact.long-exactly p f I₁ I₂ M C out proper
+      pub verdict-long : ((verdictIn p f J₁ J₂ M C out) .answer ≡ long) ↔ (Diagonals p I₁ R₂ → ⊥)
+      verdict-long = Exact.long-exactly p f J₁ J₂ M C out proper
 
-      pub verdict-long-entry : ((verdictIn p f I₁ I₂ M C out) .answer ≡ long) ↔ (DiagonalLong p (I₁ .D) ⊎ DiagonalLong p (R₂ .D))
+      pub verdict-long-entry : ((verdictIn p f J₁ J₂ M C out) .answer ≡ long) ↔ (DiagonalLong p (I₁ .D) ⊎ DiagonalLong p (R₂ .D))
       verdict-long-entry = via verdict-long (long-iff p I₁ R₂)
 
       -- norm if and only if the diagonals are within B and the first equation fails
-      pub verdict-norm : ((verdictIn p f I₁ I₂ M C out) .answer ≡ norm) ↔ (Diagonals p I₁ R₂ × (FirstEquation p I₁ R₂ R → ⊥))
-      verdict-norm = Exact.norm-exactly p f I₁ I₂ M C out proper
+      pub verdict-norm : ((verdictIn p f J₁ J₂ M C out) .answer ≡ norm) ↔ (Diagonals p I₁ R₂ × (FirstEquation p I₁ R₂ R → ⊥))
+      verdict-norm = Exact.norm-exactly p f J₁ J₂ M C out proper
 
       -- commitment if and only if only the second fails
-      pub verdict-commitment : ((verdictIn p f I₁ I₂ M C out) .answer ≡ commitment) ↔ (Diagonals p I₁ R₂ × FirstEquation p I₁ R₂ R × (SecondEquation p I₁ R₂ R → ⊥))
-      verdict-commitment = Exact.commitment-exactly p f I₁ I₂ M C out proper
+      pub verdict-commitment : ((verdictIn p f J₁ J₂ M C out) .answer ≡ commitment) ↔ (Diagonals p I₁ R₂ × FirstEquation p I₁ R₂ R × (SecondEquation p I₁ R₂ R → ⊥))
+      verdict-commitment = Exact.commitment-exactly p f J₁ J₂ M C out proper
 
       -- instances that have witnesses in relation (1) are never long
-      pub related-never-long : (A : List ℕ) (S₁ S₂ : List ℤ) → Related p A I₁ S₁ → Related p A R₂ S₂ → (verdictIn p f I₁ I₂ M C out) .answer ≢ long
+      pub related-never-long : (A : List ℕ) (S₁ S₂ : List ℤ) → Related p A I₁ S₁ → Related p A R₂ S₂ → (verdictIn p f J₁ J₂ M C out) .answer ≢ long
       related-never-long A S₁ S₂ r₁ r₂ e = verdict-long .0 e (r₁ .norm, r₂ .norm)
+
+  -- ---- request 5: the leaf count is 1 from commit and the sum from join
+
+  pub commit-leaves : (A : List ℕ) (S : List ℤ) (out : Instance) → CountsOn done 1 (commitIn p f A S out)
+  unfolding commitIn
+  commit-leaves A S out = Exact.done-leaves (counted out 0) (counted (instanceIn p f A S) 1) _ refl
+
+  pub join-leaves : (J₁ J₂ : Counted) («V» : List ℤ) (out : Instance) → CountsOn done (J₁ .leaves + J₂ .leaves) (joinIn p f J₁ J₂ «V» out)
+  unfolding joinIn
+  join-leaves J₁ J₂ «V» out = Exact.done-leaves (counted out 0) (counted (joinedInstance p (J₁ .instance) (repeatedInstance p f (J₂ .instance)) (repeatedV p f «V»)) (J₁ .leaves + J₂ .leaves)) _ refl
 
 -- ---- request 2: each outcome of a fresh call is the general call's, with all that is fresh repeated t times
 
 module _ (p : Parameters) where
   pub commit-repeats : (A : List ℕ) (v : List ℤ) (out : Instance) → CommitLengths p Fresh A v out
-      → expanded (repeatedInstance p Fresh) (commitIn p Fresh A v out) ≡ commitIn p General A (repeatedS p Fresh v) (repeatedInstance p Fresh out)
+      → expanded (repeatedCounted p Fresh) (commitIn p Fresh A v out) ≡ commitIn p General A (repeatedS p Fresh v) (repeatedInstance p Fresh out)
   commit-repeats A v out lengths = FreshOutcomes.commit-repeats p A v out lengths
 
-  pub join-repeats : (I₁ I₂ : Instance) («V» : List ℤ) (out : Instance) → JoinLengths p Fresh I₁ I₂ «V» out
-      → joinIn p Fresh I₁ I₂ «V» out ≡ joinIn p General I₁ (repeatedInstance p Fresh I₂) (repeatedV p Fresh «V») out
-  join-repeats I₁ I₂ «V» out lengths = FreshOutcomes.join-repeats p I₁ I₂ «V» out lengths
+  pub join-repeats : (J₁ J₂ : Counted) («V» : List ℤ) (out : Instance) → JoinLengths p Fresh (J₁ .instance) (J₂ .instance) «V» out
+      → joinIn p Fresh J₁ J₂ «V» out ≡ joinIn p General J₁ (repeatedCounted p Fresh J₂) (repeatedV p Fresh «V») out
+  join-repeats J₁ J₂ «V» out lengths = FreshOutcomes.join-repeats p J₁ J₂ «V» out lengths
 
   pub message-repeats : (A : List ℕ) (S₁ v : List ℤ) (out : Prepared) → MessageLengths p Fresh A S₁ v out
       → expanded (repeatedPrepared p Fresh) (messageIn p Fresh A S₁ v out) ≡ messageIn p General A S₁ (repeatedS p Fresh v) (repeatedPrepared p Fresh out)
   message-repeats A S₁ v out lengths = FreshOutcomes.message-repeats p A S₁ v out lengths
 
-  pub verdict-repeats : (I₁ I₂ : Instance) (M : Message) (C : List ℕ) (out : Instance) → VerdictLengths p Fresh I₁ I₂ M C out
-      → verdictIn p Fresh I₁ I₂ M C out ≡ verdictIn p General I₁ (repeatedInstance p Fresh I₂) (repeatedMessage p Fresh M) C out
-  verdict-repeats I₁ I₂ M C out lengths = FreshOutcomes.verdict-repeats p I₁ I₂ M C out lengths
+  pub verdict-repeats : (J₁ J₂ : Counted) (M : Message) (C : List ℕ) (out : Instance) → VerdictLengths p Fresh (J₁ .instance) (J₂ .instance) M C out
+      → verdictIn p Fresh J₁ J₂ M C out ≡ verdictIn p General J₁ (repeatedCounted p Fresh J₂) (repeatedMessage p Fresh M) C out
+  verdict-repeats J₁ J₂ M C out lengths = FreshOutcomes.verdict-repeats p J₁ J₂ M C out lengths
 
   pub witness-repeats : (S~ : List ℤ) (C : List ℕ) (out : List ℤ) → WitnessLengths p Fresh S~ C out
       → witnessIn p Fresh S~ C out ≡ witnessIn p General (repeatedS~ p Fresh S~) C out
@@ -182,9 +209,9 @@ module _ (p : Parameters) where
 
 module _ (p : Parameters) (f : Profile) where
   -- the verdict on a triangle is the verdict on its mirrored square, whatever else is lent: the answer, the refusals and the outputs
-  pub verdict-mirrored : (I₁ I₂ : Instance) (M : Message) (C : List ℕ) (out : Instance) → Fits (sentD~ p f) (M .D~)
-      → verdictIn p f I₁ I₂ M C out ≡ squareVerdictIn p f I₁ I₂ (mirroredMessage p f M) C out
-  verdict-mirrored I₁ I₂ M C out fits = Mirrored.verdict-mirrored p f I₁ I₂ M C out fits
+  pub verdict-mirrored : (J₁ J₂ : Counted) (M : Message) (C : List ℕ) (out : Instance) → Fits (sentD~ p f) (M .D~)
+      → verdictIn p f J₁ J₂ M C out ≡ squareVerdictIn p f J₁ J₂ (mirroredMessage p f M) C out
+  verdict-mirrored J₁ J₂ M C out fits = Mirrored.verdict-mirrored p f J₁ J₂ M C out fits
 
   -- honest messages correspond: as a whole, and D~ entry by entry
   pub messages-correspond : (A : List ℕ) (S₁ S₂ : List ℤ) → mirroredPrepared p f (preparedIn p f A S₁ S₂) ≡ squarePreparedIn p f A S₁ S₂
@@ -204,11 +231,11 @@ module _ (p : Parameters) (f : Profile) where
   stored-bounds D fits = rw fits (mirrored-bounds (columnsOf p f) (HOf p) D)
 
   -- so where D1 or D2 is not symmetric, and no diagonal entry exceeds B, the answer is norm
-  pub unsymmetric-is-norm : (I₁ I₂ : Instance) (M : Message) (C : List ℕ) (out : Instance) → ProperVerdict p f I₁ I₂ M C out → Diagonals p I₁ (repeatedInstance p f I₂)
-      → ((Symmetric (p .t) (matrixD p .read (I₁ .D)) × Symmetric (p .t) (matrixD p .read (repeatedInstance p f I₂ .D))) → ⊥)
-      → (verdictIn p f I₁ I₂ M C out) .answer ≡ norm
-  unsymmetric-is-norm I₁ I₂ M C out proper within uneven =
-      Exact.norm-exactly p f I₁ I₂ M C out proper .1 (within, λ first. uneven (first-symmetric p I₁ (repeatedInstance p f I₂) (meant p f M) (meant-symmetric p f M) first))
+  pub unsymmetric-is-norm : (J₁ J₂ : Counted) (M : Message) (C : List ℕ) (out : Instance) → ProperVerdict p f J₁ J₂ M C out → Diagonals p (J₁ .instance) (repeatedInstance p f (J₂ .instance))
+      → ((Symmetric (p .t) (matrixD p .read (J₁ .instance .D)) × Symmetric (p .t) (matrixD p .read (repeatedInstance p f (J₂ .instance) .D))) → ⊥)
+      → (verdictIn p f J₁ J₂ M C out) .answer ≡ norm
+  unsymmetric-is-norm J₁ J₂ M C out proper within uneven =
+      Exact.norm-exactly p f J₁ J₂ M C out proper .1 (within, λ first. uneven (first-symmetric p (J₁ .instance) (repeatedInstance p f (J₂ .instance)) (meant p f M) (meant-symmetric p f M) first))
 
 -- ---- request 4: the digit and what the rule adds, by arithmetic
 
@@ -260,9 +287,14 @@ module _ (p : Parameters) where
 
   -- ---- demand 3: every honest tree of folds
 
-  -- for every tree of short leaf witnesses and ternary challenges, whatever the lent outputs of its calls held before
-  pub every-tree-is-honest : (A : List ℕ) (t : Tree) (held : Held t) → settingRefusal p ≡ 0 → Fits (matrixA p) A → Proper p t → HeldFits p t held → Honest p A t held
-  every-tree-is-honest A t held ok sizeA proper fits = honest p A ok sizeA t held proper fits
+  -- for every tree of short leaf witnesses and ternary challenges with at most 2^32 − 1 leaves, whatever the lent outputs of its
+  -- calls held before
+  pub every-tree-is-honest : (A : List ℕ) (t : Tree) (held : Held t) → settingRefusal p ≡ 0 → Fits (matrixA p) A → Proper p t → leavesOf t ≤ mostLeaves → HeldFits p t held → Honest p A t held
+  every-tree-is-honest A t held ok sizeA proper few fits = honest p A ok sizeA t held proper few fits
+
+  -- the leaf count that the verifier works out is the number of the tree's leaves
+  pub tree-leaves : (A : List ℕ) (t : Tree) (held : Held t) → settingRefusal p ≡ 0 → Fits (matrixA p) A → Proper p t → leavesOf t ≤ mostLeaves → HeldFits p t held → seen p (viewOf p A t held) .leaves ≡ leavesOf t
+  tree-leaves A t held ok sizeA proper few fits = ap (λ (J : Counted). J .leaves) (honest p A ok sizeA t held proper few fits .verifier)
 
   -- such outputs can be lent for every tree, so that this speaks of every tree
   pub outputs-exist : (t : Tree) → (held : Held t) × HeldFits p t held

@@ -23,11 +23,11 @@ rankOf member = 4
 rankOf done = 5
 rankOf (refused r) = 6
 
-module _ (middle last : Meaning) (second : rankOf middle ≡ 2) (fourth : rankOf last ≡ 4) where
-  -- two answers of different ranks are not the same
-  apart : {A : Type 0} (x y : Meaning) → (rankOf x ≡ rankOf y → ⊥) → x ≡ y → A
-  apart x y f e = absurd (f (ap rankOf e))
+-- two answers of different ranks are not the same
+pub apart : {A : Type 0} (x y : Meaning) → (rankOf x ≡ rankOf y → ⊥) → x ≡ y → A
+apart x y f e = absurd (f (ap rankOf e))
 
+module _ (middle last : Meaning) (second : rankOf middle ≡ 2) (fourth : rankOf last ≡ 4) where
   -- the tests are those of P, Q and R
   pub first-fails : {P : Type 0} (a b c : Bool) → T a ↔ P → (answerBy middle last a b c ≡ long) ↔ (P → ⊥)
   unfolding rankOf

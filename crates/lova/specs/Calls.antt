@@ -2,7 +2,7 @@
 use mathlib.Core.Path.{_≡_}
 use mathlib.Core.Logic.{_↔_}
 use mathlib.Core.List.{List}
-use Prim.Native.Nat.{ℕ, _<_, _≤_}
+use Prim.Native.Nat.{ℕ, _+_, _<_, _≤_}
 use lib.IntN.{ℤ, pos, natAbs}
 use lib.ListN.{length}
 use lib.Signed.{_≤ℤ_, _<ℤ_}
@@ -11,8 +11,8 @@ use Rattle.matrices.specs.Tables.{entry}
 use Rattle.settings.specs.Rules.{Rule, First}
 use Rattle.settings.specs.Settings.{Parameters, NOf, hOf, HOf, settingRefusal, settingOf, parametersOf}
 use Rattle.settings.specs.declared.Setting.{Setting}
-use Rattle.lova.specs.Answers.{refused, Outcome, ends}
-use Rattle.lova.specs.Stored.{Stored, Instance, Message, Prepared, rightOf, columnsOf, matrixA, matrixT, matrixS, matrixD, rightS, rightT, rightD, sentV, sentS~, sentT~, sentD~, joinedT, joinedD, sizeC}
+use Rattle.lova.specs.Answers.{Meaning, refused, Outcome, ends}
+use Rattle.lova.specs.Stored.{Stored, Instance, Counted, mostLeaves, Message, Prepared, rightOf, columnsOf, matrixA, matrixT, matrixS, matrixD, rightS, rightT, rightD, sentV, sentS~, sentT~, sentD~, joinedT, joinedD, sizeC}
 use Rattle.lova.specs.declared.Profile.{Profile}
 use Rattle.lova.specs.declared.Profile.the-variants.{General}
 
@@ -57,6 +57,10 @@ DiagonalLong p D = (i : ℕ) × (i < p .t) × (pos (p .bound) <ℤ matrixD p .re
 abbrev pub Ternary : Parameters → List ℕ → Type 0
 Ternary p C = (i j : ℕ) → i < NOf p → j < p .t → entry 0 (p .t) C i j ≤ 2
 
+-- two leaf counts can be joined: none is 0, and the sum does not exceed 2^32 − 1
+abbrev pub CountsJoin : ℕ → ℕ → Type 0
+CountsJoin a b = (1 ≤ a) × (1 ≤ b) × (a + b ≤ mostLeaves)
+
 -- each entry is at most M and at least −M
 abbrev pub Bounded : ℕ → ℕ → ℕ → Matrix → Type 0
 Bounded rows cols M X = (i j : ℕ) → i < rows → j < cols → natAbs (X i j) ≤ M
@@ -92,18 +96,20 @@ module _ (p : Parameters) (f : Profile) where
     pub lengths : CommitLengths p f A S out
     pub columns : ShortRight p f S
 
-  pub record ProperJoin (I₁ I₂ : Instance) («V» : List ℤ) (out : Instance) : Type 0 where
+  pub record ProperJoin (J₁ J₂ : Counted) («V» : List ℤ) (out : Instance) : Type 0 where
     pub setting : settingRefusal p ≡ 0
-    pub lengths : JoinLengths p f I₁ I₂ «V» out
+    pub lengths : JoinLengths p f (J₁ .instance) (J₂ .instance) «V» out
+    pub counts : CountsJoin (J₁ .leaves) (J₂ .leaves)
 
   pub record ProperMessage (A : List ℕ) (S₁ S₂ : List ℤ) (out : Prepared) : Type 0 where
     pub setting : settingRefusal p ≡ 0
     pub lengths : MessageLengths p f A S₁ S₂ out
     pub columns : Short p S₁ × ShortRight p f S₂
 
-  pub record ProperVerdict (I₁ I₂ : Instance) (M : Message) (C : List ℕ) (out : Instance) : Type 0 where
+  pub record ProperVerdict (J₁ J₂ : Counted) (M : Message) (C : List ℕ) (out : Instance) : Type 0 where
     pub setting : settingRefusal p ≡ 0
-    pub lengths : VerdictLengths p f I₁ I₂ M C out
+    pub lengths : VerdictLengths p f (J₁ .instance) (J₂ .instance) M C out
+    pub counts : CountsJoin (J₁ .leaves) (J₂ .leaves)
     pub bytes : Ternary p C
     pub entries : Bounded (columnsOf p f) (columnsOf p f) (HOf p) (sentD~ p f .read (M .D~))
 
@@ -114,11 +120,15 @@ module _ (p : Parameters) (f : Profile) where
     pub entries : Bounded (p .m) (columnsOf p f) (hOf p) (sentS~ p f .read S~)
 
 -- demand 1, of a call with these rules that is proper where P holds: a proper call ends with its whole answer; every other call
--- is refused with the first number that applies to it, and its outputs keep what they held
+-- is refused with the first number that applies to it, and its outputs keep what they held (a leaf count is 0 then)
 pub record Decided {X : Type 0} (call : Outcome X) (before : X) (result : Outcome X) (rules : List Rule) (P : Type 0) : Type 0 where
   pub proper : P → call ≡ result
   pub others : (P → ⊥) → (r : ℕ) × (call ≡ ends (refused r) before) × First rules r
   pub refuses : (r : ℕ) → (call .answer ≡ refused r) ↔ First rules r
+
+-- the leaf count is n where a call ends with this word, else 0
+abbrev pub CountsOn : Meaning → ℕ → Outcome Counted → Type 0
+CountsOn word n call = (call .answer ≡ word → call .outputs .leaves ≡ n) × ((call .answer ≡ word → ⊥) → call .outputs .leaves ≡ 0)
 
 -- a setting as the checking constructor gives it: accepted, with k, N and the powers worked out from its five numbers
 pub record Rebuilt (s : Setting) : Type 0 where

@@ -10,7 +10,7 @@ use Rattle.settings.specs.Settings.{Parameters, kOf, NOf}
 use Rattle.lova.specs.declared.Profile.{Profile}
 use Rattle.lova.specs.declared.Profile.the-variants.{General, Fresh}
 use Rattle.lova.specs.Answers.{Outcome, ends}
-use Rattle.lova.specs.Stored.{Stored, Instance, Message, Prepared, rightOf, copiesFor, columnsOf, matrixV, matrixT~, matrixD~, sentV, sentT~, sentD~, readC}
+use Rattle.lova.specs.Stored.{Stored, Instance, Counted, counted, Message, Prepared, rightOf, copiesFor, columnsOf, matrixV, matrixT~, matrixD~, sentV, sentT~, sentD~, readC}
 
 -- the column of a fresh S~, T~ or D~ that stands in column c of the general one: the k columns of v's digits stand there t times
 unfoldable pub placeOf : ℕ → ℕ → ℕ → ℕ
@@ -32,6 +32,9 @@ module _ (p : Parameters) where
     T = table (p .n) (p .t) (λ i j. entry 0 1 (I .T) i 0);
     D = table (p .t) (p .t) (λ i j. entry (pos 0) 1 (I .D) 0 0);
   }
+
+  abbrev pub repeatedCounted : Profile → Counted → Counted
+  repeatedCounted f J = counted (repeatedInstance f (J .instance)) (J .leaves)
 
   abbrev pub repeatedV : Profile → List ℤ → List ℤ
   repeatedV General «V» = «V»

@@ -1,6 +1,6 @@
 -- Document 01, "Matrices": how each matrix is stored.
 use mathlib.Core.List.{List}
-use Prim.Native.Nat.{ℕ, _+_, _*_}
+use Prim.Native.Nat.{ℕ, _+_, _*_, _-_, _^_}
 use lib.IntN.{ℤ}
 use Rattle.integers.specs.Residues.{word}
 use Rattle.matrices.specs.Matrices.{Matrix}
@@ -75,6 +75,18 @@ module _ (p : Parameters) where
 pub record Instance : Type 0 where
   pub T : List ℕ
   pub D : List ℤ
+
+-- an instance with the number of leaves under it
+pub record Counted : Type 0 where
+  pub instance : Instance
+  pub leaves : ℕ
+
+abbrev pub counted : Instance → ℕ → Counted
+counted I n = record { instance = I; leaves = n }
+
+-- the most leaves of a tree
+abbrev pub mostLeaves : ℕ
+mostLeaves = 2 ^ 32 - 1
 
 -- a message: V, T~ and D~
 pub record Message : Type 0 where

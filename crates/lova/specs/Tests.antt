@@ -1,7 +1,7 @@
 -- The tests that the rules and the verdict use.
 use mathlib.Core.Bool.{Bool, true, false, _&&_}
 use mathlib.Core.List.{List}
-use Prim.Native.Nat.{ℕ, zero, suc}
+use Prim.Native.Nat.{ℕ, zero, suc, _+_}
 use lib.Dec.{leb, eqb}
 use lib.IntN.{ℤ, pos, negsuc, natAbs}
 use lib.ListN.{length}
@@ -12,7 +12,7 @@ use Rattle.matrices.specs.Tables.{entry}
 use Rattle.settings.specs.Settings.{Parameters, NOf}
 use Rattle.lova.specs.declared.Profile.{Profile}
 use Rattle.lova.specs.declared.Profile.the-variants.{General}
-use Rattle.lova.specs.Stored.{Stored, Instance, Message, Prepared, rightOf, matrixT, matrixD, rightS, rightT, rightD, sentV, sentS~, sentT~, sentD~, joinedT, joinedD, sizeC}
+use Rattle.lova.specs.Stored.{Stored, Instance, mostLeaves, Message, Prepared, rightOf, matrixT, matrixD, rightS, rightT, rightD, sentV, sentS~, sentT~, sentD~, joinedT, joinedD, sizeC}
 
 -- a test of every number below n
 unfoldable pub all : ℕ → (ℕ → Bool) → Bool
@@ -79,6 +79,10 @@ diagonalWithin p D = all (p .t) (λ i. leZ (matrixD p .read D i i) (pos (p .boun
 -- whether each byte of C is 0, 1 or 2
 unfoldable pub areTernary : Parameters → List ℕ → Bool
 areTernary p C = every (NOf p) (p .t) (λ i j. leb (entry 0 (p .t) C i j) 2)
+
+-- whether two leaf counts can be joined: none is 0, and the sum does not exceed 2^32 − 1
+unfoldable pub countsJoin : ℕ → ℕ → Bool
+countsJoin a b = leb 1 a && leb 1 b && leb (a + b) mostLeaves
 
 -- whether each entry is at most M and at least −M
 abbrev pub bounded : ℕ → ℕ → ℕ → Matrix → Bool

@@ -1,14 +1,14 @@
 -- Document 01, "Trees of folds".
 use mathlib.Core.Path.{_≡_}
 use mathlib.Core.List.{List}
-use Prim.Native.Nat.{ℕ}
+use Prim.Native.Nat.{ℕ, _+_}
 use lib.IntN.{ℤ}
 use Rattle.matrices.specs.Matrices.{product, gram}
 use Rattle.settings.specs.Settings.{Parameters}
 use Rattle.lova.specs.declared.Profile.{Profile}
 use Rattle.lova.specs.declared.Profile.the-variants.{General, Fresh}
-use Rattle.lova.specs.Answers.{done, «yes», Outcome}
-use Rattle.lova.specs.Stored.{Instance, Message, Prepared, matrixA, matrixS, rightS, joinedT, joinedD}
+use Rattle.lova.specs.Answers.{done, «yes», refused, Outcome}
+use Rattle.lova.specs.Stored.{Instance, Counted, counted, Message, Prepared, matrixA, matrixS, rightS, joinedT, joinedD}
 use Rattle.lova.specs.Calls.{Fits, FitsInstance, FitsRight, FitsJoined, FitsPrepared, FitsC, Short, ShortRight, Ternary}
 use Rattle.lova.specs.Fold.{besideS, digitWitness}
 use Rattle.lova.specs.Repeats.{repeatedS}
@@ -30,6 +30,12 @@ unfoldable pub plain : Parameters → Tree → List ℤ
 plain p (leaf S) = S
 plain p (fold left right C) = foldedWitness p (digitWitness p (besideS p (plain p left) (plain p right))) C
 plain p (foldFresh left v C) = foldedWitness p (digitWitness p (besideS p (plain p left) (repeatedS p Fresh v))) C
+
+-- the leaves of a tree; a fresh leaf is one
+unfoldable pub leavesOf : Tree → ℕ
+leavesOf (leaf S) = 1
+leavesOf (fold left right C) = leavesOf left + leavesOf right
+leavesOf (foldFresh left v C) = leavesOf left + 1
 
 -- ---- what demand 3 asks of leaves and challenges
 
@@ -73,17 +79,18 @@ leftWitness p A (fold left right C) held =
 leftWitness p A (foldFresh left v C) held =
     (witnessIn p Fresh ((messageIn p Fresh A (leftWitness p A left (held .0)) v (held .2 .message)) .outputs .S~) C (held .2 .witness)) .outputs
 
--- what the verifier sees: a leaf's instance; a fold's message and challenge, and what its own outputs held. No A, no witness
+-- what the verifier sees: a leaf's instance and its count; a fold's message and challenge, and what its own outputs held. No A,
+-- no witness
 pub data View : Type 0 where
-  leaf : Instance → View
+  leaf : Counted → View
   fold : View → View → Message → List ℕ → Instance → View
-  foldFresh : View → Instance → Message → List ℕ → Instance → View
+  foldFresh : View → Counted → Message → List ℕ → Instance → View
 
--- the T and D that the verifier works out from that alone: commit's at a leaf, verdict's at a fold
-unfoldable pub seen : Parameters → View → Instance
-seen p (View.leaf I) = I
+-- the T, D and leaf count that the verifier works out from that alone: commit's at a leaf, verdict's at a fold
+unfoldable pub seen : Parameters → View → Counted
+seen p (View.leaf J) = J
 seen p (View.fold left right M C before) = (verdict p (seen p left) (seen p right) M C before) .outputs
-seen p (View.foldFresh left I M C before) = (verdictIn p Fresh (seen p left) I M C before) .outputs
+seen p (View.foldFresh left J M C before) = (verdictIn p Fresh (seen p left) J M C before) .outputs
 
 -- the message call at a fold
 unfoldable pub prepares : (p : Parameters) (A : List ℕ) (left right : Tree) → Held left → Held right → Before → Outcome Prepared
@@ -108,15 +115,22 @@ joinOf p A S₁ S₂ = record {
   D = joinedD p .write (gram (p .m) (besideS p S₁ S₂));
 }
 
--- a fold's calls, at what they are given: I1 and I2 are the two instances, S1 and S2 the two witnesses
-pub record FoldAccepted (p : Parameters) (f : Profile) (A : List ℕ) (I₁ I₂ : Instance) (S₁ S₂ : List ℤ) (C : List ℕ) (before : Before) (said : Prepared) : Type 0 where
+-- a fold's calls, at what they are given: J1 and J2 are the two instances with their counts, S1 and S2 the two witnesses
+pub record FoldAccepted (p : Parameters) (f : Profile) (A : List ℕ) (J₁ J₂ : Counted) (S₁ S₂ : List ℤ) (C : List ℕ) (before : Before) (said : Prepared) : Type 0 where
   pub messages : (messageIn p f A S₁ S₂ (before .message)) .answer ≡ done
-  pub joins : (joinIn p f I₁ I₂ (said .message .«V») (before .join)) .answer ≡ done
-  pub joined : (joinIn p f I₁ I₂ (said .message .«V») (before .join)) .outputs ≡ joinOf p A S₁ (repeatedS p f S₂)
-  pub agrees : (verdictIn p f I₁ I₂ (said .message) C (before .verdict)) .answer ≡ «yes»
+  pub joins : (joinIn p f J₁ J₂ (said .message .«V») (before .join)) .answer ≡ done
+  pub joined : (joinIn p f J₁ J₂ (said .message .«V») (before .join)) .outputs ≡ counted (joinOf p A S₁ (repeatedS p f S₂)) (J₁ .leaves + J₂ .leaves)
+  pub agrees : (verdictIn p f J₁ J₂ (said .message) C (before .verdict)) .answer ≡ «yes»
   pub folds : (witnessIn p f (said .S~) C (before .witness)) .answer ≡ done
 
--- no call of the tree is refused, every verdict is yes, and every join is A [S1 S2] with its products
+-- a fold's calls, at instances whose leaf counts cannot be joined: join and verdict are refused with 15, the prover's calls are done
+pub record FoldBeyond (p : Parameters) (f : Profile) (A : List ℕ) (J₁ J₂ : Counted) (S₁ S₂ : List ℤ) (C : List ℕ) (before : Before) (said : Prepared) : Type 0 where
+  pub messages : (messageIn p f A S₁ S₂ (before .message)) .answer ≡ done
+  pub joins : (joinIn p f J₁ J₂ (said .message .«V») (before .join)) .answer ≡ refused 15
+  pub judges : (verdictIn p f J₁ J₂ (said .message) C (before .verdict)) .answer ≡ refused 15
+  pub folds : (witnessIn p f (said .S~) C (before .witness)) .answer ≡ done
+
+-- no call of the tree is refused, every verdict is yes, and every join is A [S1 S2] with its products, and counts their leaves
 unfoldable pub AllAccepted : (p : Parameters) (A : List ℕ) (t : Tree) → Held t → Type 0
 AllAccepted p A (leaf S) held = (commit p A S held) .answer ≡ done
 AllAccepted p A (fold left right C) held =
@@ -130,10 +144,11 @@ AllAccepted p A (foldFresh left v C) held =
     (leftWitness p A left (held .0)) v C (held .2) ((preparesFresh p A left v (held .0) (held .2)) .outputs)
 
 -- demand 3, of one tree and of what its outputs held: at the root the witness S is the plain tree's, the verifier's T and D
--- are A S modulo 2^64 and S-transposed S and so in relation (1) with S, and each column of S is within B
+-- are A S modulo 2^64 and S-transposed S and so in relation (1) with S, its leaf count is the tree's, and each column of S is
+-- within B
 pub record Honest (p : Parameters) (A : List ℕ) (t : Tree) (held : Held t) : Type 0 where
   pub accepted : AllAccepted p A t held
   pub witness : leftWitness p A t held ≡ plain p t
-  pub verifier : seen p (viewOf p A t held) ≡ instanceOf p A (plain p t)
-  pub related : Related p A (seen p (viewOf p A t held)) (plain p t)
+  pub verifier : seen p (viewOf p A t held) ≡ counted (instanceOf p A (plain p t)) (leavesOf t)
+  pub related : Related p A (seen p (viewOf p A t held) .instance) (plain p t)
   pub columns : Short p (plain p t)

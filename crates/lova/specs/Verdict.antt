@@ -1,7 +1,7 @@
 -- Verdict: both instances, V, T~, D~, C to T', D'.
 use mathlib.Core.Bool.{Bool, not, cond, _&&_}
 use mathlib.Core.List.{List, [], _∷_}
-use Prim.Native.Nat.{ℕ, _*_}
+use Prim.Native.Nat.{ℕ, _+_, _*_}
 use lib.IntN.{ℤ}
 use Rattle.integers.specs.Residues.{word}
 use Rattle.matrices.specs.Matrices.{product, bothSides, Agree}
@@ -9,23 +9,25 @@ use Rattle.settings.specs.Rules.{Rule, _gives_, firstOf}
 use Rattle.settings.specs.Settings.{Parameters, NOf, HOf}
 use Rattle.lova.specs.declared.Profile.{Profile}
 use Rattle.lova.specs.declared.Profile.the-variants.{General}
-use Rattle.lova.specs.Repeats.{repeatedInstance, Matrices, meantAs}
+use Rattle.lova.specs.Repeats.{repeatedCounted, Matrices, meantAs}
 use Rattle.lova.specs.Answers.{afterSetting, «yes», long, norm, commitment, Outcome, ends, unlessRefused}
-use Rattle.lova.specs.Stored.{Stored, Instance, Message, matrixT, matrixD, columnsOf, sentD~, readC}
-use Rattle.lova.specs.Tests.{equal, equalWords, bounded, fitsInstance, fitsRight, fitsMessageAs, fitsC, areTernary, diagonalWithin}
+use Rattle.lova.specs.Stored.{Stored, Instance, Counted, counted, Message, matrixT, matrixD, columnsOf, sentD~, readC}
+use Rattle.lova.specs.Tests.{countsJoin, equal, equalWords, bounded, fitsInstance, fitsRight, fitsMessageAs, fitsC, areTernary, diagonalWithin}
 use Rattle.lova.specs.Calls.{DiagonalWithin}
 use Rattle.lova.specs.Fold.{besideT, blocksD, gadget}
 
--- after 1 to 6: 7 for a length; 9 for a byte of C above 2; 10 for an entry of D~, stored in this form, above H or below −H
-unfoldable pub verdictRulesAs : Parameters → Profile → Stored ℤ → Instance → Instance → Message → List ℕ → Instance → List Rule
-verdictRulesAs p f form I₁ I₂ M C out =
-    (not (fitsInstance p I₁ && fitsRight p f I₂ && fitsMessageAs p f form M && fitsC p C && fitsInstance p out) gives 7)
+-- after 1 to 6: 7 for a length; 15 for a leaf count of 0, or a sum above 2^32 − 1; 9 for a byte of C above 2; 10 for an entry of D~,
+-- stored in this form, above H or below −H
+unfoldable pub verdictRulesAs : Parameters → Profile → Stored ℤ → Counted → Counted → Message → List ℕ → Instance → List Rule
+verdictRulesAs p f form J₁ J₂ M C out =
+    (not (fitsInstance p (J₁ .instance) && fitsRight p f (J₂ .instance) && fitsMessageAs p f form M && fitsC p C && fitsInstance p out) gives 7)
+    ∷ (not (countsJoin (J₁ .leaves) (J₂ .leaves)) gives 15)
     ∷ (not (areTernary p C) gives 9)
     ∷ (not (bounded (columnsOf p f) (columnsOf p f) (HOf p) (form .read (M .D~))) gives 10)
     ∷ []
 
-abbrev pub verdictRules : Parameters → Profile → Instance → Instance → Message → List ℕ → Instance → List Rule
-verdictRules p f I₁ I₂ M C out = verdictRulesAs p f (sentD~ p f) I₁ I₂ M C out
+abbrev pub verdictRules : Parameters → Profile → Counted → Counted → Message → List ℕ → Instance → List Rule
+verdictRules p f J₁ J₂ M C out = verdictRulesAs p f (sentD~ p f) J₁ J₂ M C out
 
 module _ (p : Parameters) (I₁ I₂ : Instance) where
   -- no diagonal entry of D1 or D2 exceeds B
@@ -61,27 +63,32 @@ foldedInstance p X C = record {
 
 -- long where a diagonal entry exceeds B; else norm where the first equation fails, commitment where only the second fails, else
 -- yes; T' and D' are written on yes alone
-unfoldable pub verdictBy : Bool → Bool → Bool → Instance → Instance → Outcome Instance
+unfoldable pub verdictBy : Bool → Bool → Bool → Counted → Counted → Outcome Counted
 verdictBy within first second before after =
     cond (not within) (ends long before)
     (cond (not first) (ends norm before) (cond (not second) (ends commitment before) (ends «yes» after)))
 
-unfoldable pub judged : Parameters → Instance → Instance → Matrices → List ℕ → Instance → Outcome Instance
-judged p I₁ I₂ X C out = verdictBy (diagonalsHold p I₁ I₂) (firstHolds p I₁ I₂ X) (secondHolds p I₁ I₂ X) out (foldedInstance p X C)
+-- the leaf count is the sum on yes, else 0
+unfoldable pub judged : Parameters → Counted → Counted → Matrices → List ℕ → Instance → Outcome Counted
+judged p J₁ J₂ X C out =
+    let I₁ = J₁ .instance in
+    let I₂ = J₂ .instance in
+    verdictBy (diagonalsHold p I₁ I₂) (firstHolds p I₁ I₂ X) (secondHolds p I₁ I₂ X) (counted out 0) (counted (foldedInstance p X C) (J₁ .leaves + J₂ .leaves))
 
 -- what is judged and folded is the general call's, with all that is fresh repeated
-abbrev pub judgedAs : Parameters → Profile → Stored ℤ → Instance → Instance → Message → List ℕ → Instance → Outcome Instance
-judgedAs p f form I₁ I₂ M C out = judged p I₁ (repeatedInstance p f I₂) (meantAs p f form M) C out
+abbrev pub judgedAs : Parameters → Profile → Stored ℤ → Counted → Counted → Message → List ℕ → Instance → Outcome Counted
+judgedAs p f form J₁ J₂ M C out = judged p J₁ (repeatedCounted p f J₂) (meantAs p f form M) C out
 
-unfoldable pub verdictAs : Parameters → Profile → Stored ℤ → Instance → Instance → Message → List ℕ → Instance → Outcome Instance
-verdictAs p f form I₁ I₂ M C out = unlessRefused (firstOf (afterSetting p (verdictRulesAs p f form I₁ I₂ M C out))) out (judgedAs p f form I₁ I₂ M C out)
+unfoldable pub verdictAs : Parameters → Profile → Stored ℤ → Counted → Counted → Message → List ℕ → Instance → Outcome Counted
+verdictAs p f form J₁ J₂ M C out =
+    unlessRefused (firstOf (afterSetting p (verdictRulesAs p f form J₁ J₂ M C out))) (counted out 0) (judgedAs p f form J₁ J₂ M C out)
 
 -- as it is sent: a triangle
-abbrev pub judgedIn : Parameters → Profile → Instance → Instance → Message → List ℕ → Instance → Outcome Instance
-judgedIn p f I₁ I₂ M C out = judgedAs p f (sentD~ p f) I₁ I₂ M C out
+abbrev pub judgedIn : Parameters → Profile → Counted → Counted → Message → List ℕ → Instance → Outcome Counted
+judgedIn p f J₁ J₂ M C out = judgedAs p f (sentD~ p f) J₁ J₂ M C out
 
-unfoldable pub verdictIn : Parameters → Profile → Instance → Instance → Message → List ℕ → Instance → Outcome Instance
-verdictIn p f I₁ I₂ M C out = verdictAs p f (sentD~ p f) I₁ I₂ M C out
+unfoldable pub verdictIn : Parameters → Profile → Counted → Counted → Message → List ℕ → Instance → Outcome Counted
+verdictIn p f J₁ J₂ M C out = verdictAs p f (sentD~ p f) J₁ J₂ M C out
 
-abbrev pub verdict : Parameters → Instance → Instance → Message → List ℕ → Instance → Outcome Instance
-verdict p I₁ I₂ M C out = verdictIn p General I₁ I₂ M C out
+abbrev pub verdict : Parameters → Counted → Counted → Message → List ℕ → Instance → Outcome Counted
+verdict p J₁ J₂ M C out = verdictIn p General J₁ J₂ M C out

@@ -2,15 +2,21 @@
 ghost use mathlib.Core.Path.{_≡_};
 ghost use Rattle.lova.specs.Stored.{rightFor, copiesFor};
 
-// Of commit, join, message and folded witness.
+// Of message and folded witness.
 pub enum Answer {
     Done,
     Refused(u8),
 }
 
-// Of the verdict.
+// Of commit and join: done with the number of leaves under the instance made.
+pub enum Made {
+    Done(u32),
+    Refused(u8),
+}
+
+// Of the verdict: yes with the number of leaves under the folded instance.
 pub enum Verdict {
-    Yes,
+    Yes(u32),
     Long,
     Norm,
     Commitment,

@@ -122,7 +122,19 @@ fn verdicts(
 fn joined(setting: Setting, t1: &[u64], d1: &[i64], t2: &[u64], d2: &[i64], v: &[i64]) {
     let mut t = [111u64; 4];
     let mut d = [-222i64; 16];
-    let given = joins::join(setting, Profile::General, t1, d1, t2, d2, v, &mut t, &mut d);
+    let given = joins::join(
+        setting,
+        Profile::General,
+        t1,
+        d1,
+        1,
+        t2,
+        d2,
+        1,
+        v,
+        &mut t,
+        &mut d,
+    );
     lines::join(given, &t, &d);
 }
 

@@ -12,18 +12,20 @@ mod lists;
 
 use lova::Verdict;
 
-// The numbers of t and d, a tab before each, from `at` on, and a line feed; answers the place past it.
-fn put_instance(out: &mut [u8], at: usize, t: &[u64], d: &[i64]) -> usize
-    requires { ⌜ at + 21 * length (now t) + 21 * length (now d) + 1 ≤ length (now out) ⌝ }
+// The numbers of t and d and the leaf count, a tab before each, from `at` on, and a line feed; answers the place past
+// it.
+fn put_instance(out: &mut [u8], at: usize, t: &[u64], d: &[i64], leaves: u64) -> usize
+    requires { ⌜ at + 21 * length (now t) + 21 * length (now d) + 22 ≤ length (now out) ⌝ }
     ensures { λ r. ⌜
-        (r ≡ at + length (instanceText (now (t .entry)) (now (d .entry))))
-        × (now (out .exit) ≡ written (now (out .entry)) at (instanceText (now (t .entry)) (now (d .entry))))
-        × (r ≤ at + 21 * length (now (t .entry)) + 21 * length (now (d .entry)) + 1) ⌝ }
+        (r ≡ at + length (instanceText (now (t .entry)) (now (d .entry)) leaves))
+        × (now (out .exit) ≡ written (now (out .entry)) at (instanceText (now (t .entry)) (now (d .entry)) leaves))
+        × (r ≤ at + 21 * length (now (t .entry)) + 21 * length (now (d .entry)) + 22) ⌝ }
 {
     let after_t = field_writers::put_u64s(out, at, t);
     let after_d = lists::put_i64s(out, after_t, d);
-    out[after_d] = 10;
-    after_d + 1
+    let after_leaves = field_writers::put_number(out, after_d, leaves);
+    out[after_leaves] = 10;
+    after_leaves + 1
 }
 
 // A tab and the word of a verdict, from `at` on; answers the place past it.
@@ -35,7 +37,7 @@ fn put_verdict(out: &mut [u8], at: usize, verdict: Verdict) -> usize
         × (r ≤ at + 16) ⌝ }
 {
     match verdict {
-        Verdict::Yes => field_writers::put_bytes(out, at, b"\tyes"),
+        Verdict::Yes(_) => field_writers::put_bytes(out, at, b"\tyes"),
         Verdict::Long => field_writers::put_bytes(out, at, b"\tlong"),
         Verdict::Norm => field_writers::put_bytes(out, at, b"\tnorm"),
         Verdict::Commitment => field_writers::put_bytes(out, at, b"\tcommitment"),
@@ -43,27 +45,35 @@ fn put_verdict(out: &mut [u8], at: usize, verdict: Verdict) -> usize
     }
 }
 
-// Writes the line of leaf `number` with its instance, and answers the line's length.
-pub fn put_leaf(out: &mut [u8], number: u64, t: &[u64], d: &[i64]) -> usize
+// Writes the line of leaf `number` with its instance and leaf count, and answers the line's length.
+pub fn put_leaf(out: &mut [u8], number: u64, t: &[u64], d: &[i64], leaves: u64) -> usize
     requires { ⌜ 64 + 21 * length (now t) + 21 * length (now d) ≤ length (now out) ⌝ }
     ensures { λ r. ⌜
         (r ≤ length (now (out .exit)))
-        × (take r (now (out .exit)) ≡ leafText number (now (t .entry)) (now (d .entry))) ⌝ }
+        × (take r (now (out .exit)) ≡ leafText number (now (t .entry)) (now (d .entry)) leaves) ⌝ }
 {
     let word = field_writers::put_bytes(out, 0, b"leaf");
-    let at = field_writers::put_number(out, word, number);
-    put_instance(out, at, t, d)
+    let after = field_writers::put_number(out, word, number);
+    put_instance(out, after, t, d, leaves)
 }
 
-// Writes the line of fold `number` with its verdict and folded instance, and answers the line's length.
-pub fn put_fold(out: &mut [u8], number: u64, verdict: Verdict, t: &[u64], d: &[i64]) -> usize
+// Writes the line of fold `number` with its verdict, folded instance and leaf count, and answers the line's length.
+pub fn put_fold(
+    out: &mut [u8],
+    number: u64,
+    verdict: Verdict,
+    t: &[u64],
+    d: &[i64],
+    leaves: u64,
+) -> usize
     requires { ⌜ 64 + 21 * length (now t) + 21 * length (now d) ≤ length (now out) ⌝ }
     ensures { λ r. ⌜
         (r ≤ length (now (out .exit)))
-        × (take r (now (out .exit)) ≡ foldText number (verdictOf verdict) (now (t .entry)) (now (d .entry))) ⌝ }
+        × (take r (now (out .exit))
+        ≡ foldText number (verdictOf verdict) (now (t .entry)) (now (d .entry)) leaves) ⌝ }
 {
     let word = field_writers::put_bytes(out, 0, b"fold");
     let after_number = field_writers::put_number(out, word, number);
-    let at = put_verdict(out, after_number, verdict);
-    put_instance(out, at, t, d)
+    let after_verdict = put_verdict(out, after_number, verdict);
+    put_instance(out, after_verdict, t, d, leaves)
 }

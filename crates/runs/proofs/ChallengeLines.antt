@@ -5,12 +5,12 @@ use mathlib.Core.List.{List}
 use mathlib.Core.Option.{Option, some, none}
 use Prim.Native.Nat.{ℕ, _+_}
 use Rattle.settings.specs.Settings.{Parameters}
-use Rattle.lova.specs.Answers.{Meaning, refused, ends}
+use Rattle.lova.specs.Answers.{Meaning, refused, ends, refusal, refuses}
 use Rattle.lova.specs.Stored.{matrixD}
 use Rattle.lova.specs.Calls.{Fits}
-use Rattle.chain.specs.Nodes.{Node, refusal, refuses, foldOf}
+use Rattle.chain.specs.Nodes.{Node, foldOf}
 use Rattle.chain.specs.Reports.{foldText, foldLine}
-use Rattle.chain.specs.Chain.{Counts, counted, step, leaf, refuse, onChallenge, numberOf}
+use Rattle.chain.specs.Chain.{Counts, tally, step, leaf, refuse, onChallenge, numberOf}
 use Rattle.chain.proofs.Numbers.{fold-prints}
 
 module _ (n : Counts) (p : Parameters) (A : List ℕ) (left right : Node) (o : Option (List ℕ)) where
@@ -24,14 +24,14 @@ module _ (n : Counts) (p : Parameters) (A : List ℕ) (left right : Node) (o : O
     unfolding onChallenge refusal refuses numberOf
     challenge-refused number f = rw (r, ← e, f) refl
 
-    challenge-goes-on : refuses v ≡ false → onChallenge n p A left right o ≡ step (counted (n .line + 1) (n .leaves) (n .folds + 1)) (leaf p A z) (foldLine p (n .folds + 1) v (z .instance))
+    challenge-goes-on : refuses v ≡ false → onChallenge n p A left right o ≡ step (tally (n .line + 1) (n .leaves) (n .folds + 1)) (leaf p A z) (foldLine p (n .folds + 1) v (z .instance))
     unfolding onChallenge
     challenge-goes-on f = rw (r, ← e, f) refl
 
-    -- where the slices hold z, and the line has z's elements
-    pub challenge-taken : refuses v ≡ false → (z′ : Node) → z′ ≡ z → Fits (matrixD p) (z′ .instance .D) → (output : List ℕ)
-        → output ≡ foldText (n .folds + 1) v (z′ .instance .T) (z′ .instance .D)
-        → step (counted (n .line + 1) (n .leaves) (n .folds + 1)) (leaf p A z′) output ≡ onChallenge n p A left right o
+    -- where the slices hold z, and the line has z's elements and leaf count
+    pub challenge-taken : refuses v ≡ false → (z′ : Node) → z′ ≡ z → Fits (matrixD p) (z′ .instance .instance .D) → (output : List ℕ)
+        → output ≡ foldText (n .folds + 1) v (z′ .instance .instance .T) (z′ .instance .instance .D) (z′ .instance .leaves)
+        → step (tally (n .line + 1) (n .leaves) (n .folds + 1)) (leaf p A z′) output ≡ onChallenge n p A left right o
     challenge-taken f z′ same fits output l =
         rw (l, fold-prints p (n .folds + 1) (z′ .instance) fits v)
-        (ap (λ (y : Node). step (counted (n .line + 1) (n .leaves) (n .folds + 1)) (leaf p A y) (foldLine p (n .folds + 1) v (y .instance))) same ∙ sym (challenge-goes-on f))
+        (ap (λ (y : Node). step (tally (n .line + 1) (n .leaves) (n .folds + 1)) (leaf p A y) (foldLine p (n .folds + 1) v (y .instance))) same ∙ sym (challenge-goes-on f))

@@ -3,12 +3,12 @@
 ghost use mathlib.Core.Path.{_≡_};
 ghost use mathlib.Core.Bool.{true};
 ghost use Rattle.settings.specs.Settings.{parametersOf};
-ghost use Rattle.lova.specs.Answers.{ends, answerOf};
+ghost use Rattle.lova.specs.Answers.{ends, madeOf, madeLeaves};
 ghost use Rattle.lova.specs.Stored.{matrixS};
 ghost use Rattle.lova.specs.Calls.{Rebuilt, Fits};
 ghost use Rattle.chain.specs.Limits.{small, programLimits};
 ghost use Rattle.chain.specs.Nodes.{nodeOf, FitsNode, nodeBefore, nodeAfter, leafOf};
-use lova::Answer;
+use lova::Made;
 use lova::Profile;
 use settings::Setting;
 
@@ -20,14 +20,14 @@ pub(crate) fn leaf(
     t: &mut [u64],
     d: &mut [i64],
     w: &mut [i64],
-) -> Answer
+) -> Made
     requires { ⌜ Rebuilt setting ⌝ }
     requires { ⌜ small programLimits (parametersOf setting) ≡ true ⌝ }
     requires { ⌜ Fits (matrixS (parametersOf setting)) (now s) ⌝ }
-    requires { ⌜ FitsNode (parametersOf setting) (nodeOf (now t) (now d) (now w)) ⌝ }
+    requires { ⌜ FitsNode (parametersOf setting) (nodeOf (now t) (now d) 0 (now w)) ⌝ }
     ensures { λ r. ⌜
-        ends (answerOf r) (nodeAfter t d w)
-        ≡ leafOf (parametersOf setting) (now (a .entry)) (now (s .entry)) (nodeBefore t d w) ⌝ }
+        ends (madeOf r) (nodeAfter t d (madeLeaves r) w)
+        ≡ leafOf (parametersOf setting) (now (a .entry)) (now (s .entry)) (nodeBefore t d 0 w) ⌝ }
 {
     let mut made_t = [0u64; 16];
     let mut made_d = [0i64; 4];
@@ -42,12 +42,12 @@ pub(crate) fn leaf(
         &mut made_d[..size_d],
     );
     match answer {
-        Answer::Refused(number) => Answer::Refused(number),
-        Answer::Done => {
+        Made::Refused(number) => Made::Refused(number),
+        Made::Done(leaves) => {
             copies::copy_words(&made_t[..size_t], t);
             copies::copy_wholes(&made_d[..size_d], d);
             copies::copy_wholes(s, w);
-            Answer::Done
+            Made::Done(leaves)
         }
     }
 }

@@ -46,6 +46,7 @@ impl Param {
             line: state.line + 1,
             leaves: state.leaves,
             folds: state.folds,
+            under: state.under,
             setting: setting,
         };
         Taken {

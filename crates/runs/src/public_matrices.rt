@@ -38,6 +38,7 @@ impl Matrix {
             line: state.line + 1,
             leaves: state.leaves,
             folds: state.folds,
+            under: state.under,
             setting: setting,
         };
         Taken {

@@ -9,7 +9,7 @@ ghost use Rattle.matrices.specs.Matrices.{squaredLength};
 ghost use Rattle.matrices.specs.Tables.{entry, signed};
 ghost use Rattle.settings.specs.Settings.{parametersOf};
 ghost use Rattle.lova.specs.Lent.{instanceBefore, messageBefore};
-ghost use Rattle.lova.specs.Tests.{all, every, fitsRight, fitsMessage};
+ghost use Rattle.lova.specs.Tests.{all, every, countsJoin, fitsRight, fitsMessage};
 ghost use Rattle.lova.specs.Calls.{Rebuilt};
 use lova::Profile;
 use settings::Setting;
@@ -57,6 +57,19 @@ pub fn entries_within(x: &[i64], limit: u64) -> bool
         i += 1;
     }
     true
+}
+
+// Whether two leaf counts can be joined: none is 0, and the sum, taken where it cannot wrap, is below 2^32.
+pub fn counts_join(leaves1: u32, leaves2: u32) -> bool
+    ensures { λ r. ⌜ r ≡ countsJoin leaves1 leaves2 ⌝ }
+{
+    if leaves1 == 0 {
+        return false;
+    }
+    if leaves2 == 0 {
+        return false;
+    }
+    leaves1 as u64 + leaves2 as u64 <= 4294967295
 }
 
 // Whether both hold. Lengths are joined by it, so that a test of many has no branch of its own for each.

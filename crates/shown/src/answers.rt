@@ -1,6 +1,7 @@
 // How settings and answers are written.
 use super::print;
 use lova::Answer;
+use lova::Made;
 use lova::Membership;
 use lova::Verdict;
 use settings::Checked;
@@ -37,7 +38,7 @@ pub fn asked(n: usize, m: usize, t: usize, b: u64, bound: u64) {
     checked(Setting::new(n, m, t, b, bound));
 }
 
-// The answer of commit, join, message or folded witness.
+// The answer of message or folded witness.
 pub fn answer(given: Answer) {
     match given {
         Answer::Done => print::text(b": done"),
@@ -45,9 +46,17 @@ pub fn answer(given: Answer) {
     }
 }
 
+// The answer of commit or join.
+pub fn made(given: Made) {
+    match given {
+        Made::Done(leaves) => print::number(b": done, leaves: ", leaves as u64),
+        Made::Refused(r) => refused(r),
+    }
+}
+
 pub fn verdict(given: Verdict) {
     match given {
-        Verdict::Yes => print::text(b": yes"),
+        Verdict::Yes(leaves) => print::number(b": yes, leaves: ", leaves as u64),
         Verdict::Long => print::text(b": long"),
         Verdict::Norm => print::text(b": norm"),
         Verdict::Commitment => print::text(b": commitment"),

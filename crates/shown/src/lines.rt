@@ -4,6 +4,7 @@
 use super::answers;
 use super::print;
 use lova::Answer;
+use lova::Made;
 use lova::Profile;
 use settings::Setting;
 
@@ -32,7 +33,7 @@ pub fn commit(
 ) {
     print::words(b"commit, A:", a);
     print::whole(b", S:", s);
-    answers::answer(commitments::commit(setting, profile, a, s, t, d));
+    answers::made(commitments::commit(setting, profile, a, s, t, d));
     instance(t, d);
 }
 
@@ -45,13 +46,13 @@ pub fn message(given: Answer, v: &[i64], tt: &[u64], ss: &[i64]) {
     print::end();
 }
 
-pub fn join(given: Answer, t: &[u64], d: &[i64]) {
+pub fn join(given: Made, t: &[u64], d: &[i64]) {
     print::text(b"join");
-    answers::answer(given);
+    answers::made(given);
     instance(t, d);
 }
 
-// The caller writes what is judged, at the start of the line.
+// The caller writes what is judged, at the start of the line; one leaf is under each instance.
 pub fn verdict(
     setting: Setting,
     profile: Profile,
@@ -66,7 +67,8 @@ pub fn verdict(
     t: &mut [u64],
     d: &mut [i64],
 ) {
-    answers::verdict(verdicts::verify(setting, profile, t1, d1, t2, d2, v, tt, dd, c, t, d));
+    let given = verdicts::verify(setting, profile, t1, d1, 1, t2, d2, 1, v, tt, dd, c, t, d);
+    answers::verdict(given);
     instance(t, d);
 }
 

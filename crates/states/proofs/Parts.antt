@@ -1,5 +1,5 @@
 -- A slice whose first k elements are lent, and the slice after they came back as ys; what a refused node leaves.
-use mathlib.Core.Path.{_≡_, sym, _∙_, ap}
+use mathlib.Core.Path.{_≡_, refl, sym, _∙_, ap}
 use mathlib.Core.List.{List, _++_}
 use Prim.Native.Nat.{ℕ, _+_, _*_, _≤_}
 use native.Mathlib.Omega.{arith}
@@ -10,7 +10,6 @@ use Rattle.settings.specs.Settings.{Parameters}
 use Rattle.lova.specs.Stored.{matrixT, matrixS, matrixD}
 use Rattle.chain.specs.Limits.{largest}
 use Rattle.chain.specs.Nodes.{Node, nodeOf}
-use Rattle.chain.proofs.Refusing.{node-same}
 use Rattle.states.specs.Lent.{partNode}
 
 pub record Part {A : Type 0} (k : ℕ) (xs ys : List A) : Type 0 where
@@ -42,19 +41,23 @@ module _ {A : Type 0} (k n : ℕ) (xs : List A) (h : k ≤ n) (l : length xs ≡
 pub as-it-was : {A : Type 0} (k : ℕ) (xs ys : List A) → ys ≡ take k xs → ys ++ drop k xs ≡ xs
 as-it-was k xs ys e = ap (λ (l : List _). l ++ drop k xs) e ∙ take-append-drop k xs
 
-module _ (p : Parameters) (T₀ : List ℕ) (D₀ S₀ : List ℤ) (T : List ℕ) (D S : List ℤ) where
-  -- a node that came back as it was
-  pub node-kept : nodeOf T D S ≡ partNode p T₀ D₀ S₀ → nodeOf (T ++ drop (matrixT p .size) T₀) (D ++ drop (matrixD p .size) D₀) (S ++ drop (matrixS p .size) S₀) ≡ nodeOf T₀ D₀ S₀
+-- with any leaf count
+module _ (p : Parameters) (T₀ : List ℕ) (D₀ S₀ : List ℤ) (T : List ℕ) (D S : List ℤ) (leaves : ℕ) where
+  -- a node that came back as it was, whatever count was handed back with it
+  pub node-kept : {n n₀ : ℕ} → nodeOf T D n S ≡ partNode p T₀ D₀ n₀ S₀
+      → nodeOf (T ++ drop (matrixT p .size) T₀) (D ++ drop (matrixD p .size) D₀) leaves (S ++ drop (matrixS p .size) S₀) ≡ nodeOf T₀ D₀ leaves S₀
   node-kept e =
-      node-same _ _ _ _ _ _
-      (as-it-was (matrixT p .size) T₀ T (ap (λ (z : Node). z .instance .T) e))
-      (as-it-was (matrixD p .size) D₀ D (ap (λ (z : Node). z .instance .D) e))
-      (as-it-was (matrixS p .size) S₀ S (ap (λ (z : Node). z .witness) e))
+      rw (
+        as-it-was (matrixT p .size) T₀ T (ap (λ (z : Node). z .instance .instance .T) e),
+        as-it-was (matrixD p .size) D₀ D (ap (λ (z : Node). z .instance .instance .D) e),
+        as-it-was (matrixS p .size) S₀ S (ap (λ (z : Node). z .witness) e),
+      )
+      refl
 
   -- a node that came back stands at the beginning of its slices
   pub node-back : Part (matrixT p .size) T₀ T → Part (matrixD p .size) D₀ D → Part (matrixS p .size) S₀ S
-      → partNode p (T ++ drop (matrixT p .size) T₀) (D ++ drop (matrixD p .size) D₀) (S ++ drop (matrixS p .size) S₀) ≡ nodeOf T D S
-  node-back t d s = node-same _ _ _ _ _ _ (t .same) (d .same) (s .same)
+      → partNode p (T ++ drop (matrixT p .size) T₀) (D ++ drop (matrixD p .size) D₀) leaves (S ++ drop (matrixS p .size) S₀) ≡ nodeOf T D leaves S
+  node-back t d s = rw (t .same, d .same, s .same) refl
 
 -- a line with T and D has room in the output buffer
 pub line-room : (t d n t′ d′ : ℕ) → t ≡ t′ → t′ ≤ matrixT largest .size → d ≡ d′ → d′ ≤ matrixD largest .size → n ≡ 512 → 64 + 21 * t + 21 * d ≤ n

@@ -10,7 +10,7 @@ use types.Run.{OneOf, miss}
 use Rattle.settings.specs.Settings.{Parameters}
 use Rattle.settings.specs.declared.Setting.{Setting}
 use Rattle.chain.specs.Reports.{refusedLine}
-use Rattle.chain.specs.Chain.{Counts, Stage, stopped, counted, step, refuse, isStopped, badLine}
+use Rattle.chain.specs.Chain.{Counts, Stage, stopped, tally, step, refuse, isStopped, badLine}
 use Rattle.states.specs.Lent.{Store, Whatever, Sound, SetFor, Safe, stageOf, countsOf, stateOf, stepOf}
 use Rattle.states.specs.declared.Due.{Due}
 use Rattle.states.specs.declared.Due.the-variants as Dues
@@ -21,9 +21,9 @@ use Rattle.states.proofs.Due.{the-type}
 pub set-for : (r : Run) (d : Due) → Sound r → r .due ≡ d → SetFor d (r .setting)
 set-for r d s e = subst (λ (d : Due). SetFor d (r .setting)) e (s .set)
 
--- a run state after a line, with the same leaves and folds
+-- a run state after a line that takes no leaf and no fold
 abbrev pub after : Run → Due → Setting → Run
-after r d s = record { due = d; line = r .line + 1; leaves = r .leaves; folds = r .folds; setting = s }
+after r d s = record { due = d; line = r .line + 1; leaves = r .leaves; folds = r .folds; under = r .under; setting = s }
 
 pub safe-after : (r : Run) (d : Due) (s : Setting) (n : ℕ) → Sound r → SetFor d s → n ≤ 512 → Safe (record { run = after r d s; length = n }) r
 safe-after r d s n sound set long = (
@@ -37,7 +37,7 @@ safe-after r d s n sound set long = (
 pub refused-comes : (r : Run) (number n : ℕ) (out : List ℕ) → take n out ≡ refusedLine (r .line + 1) number
     → Whatever (λ m. stepOf (record { run = after r Dues.Nothing (r .setting); length = n }) m out ≡ refuse (countsOf r) number)
 unfolding stageOf
-refused-comes r number n out e m = ap (λ (o : List ℕ). step (counted (r .line + 1) (r .leaves) (r .folds)) stopped o) e
+refused-comes r number n out e m = ap (λ (o : List ℕ). step (tally (r .line + 1) (r .leaves) (r .folds)) stopped o) e
 
 -- ---- refuse_bad
 
@@ -45,14 +45,14 @@ refused-comes r number n out e m = ap (λ (o : List ℕ). step (counted (r .line
 abbrev pub before-nothing : List ℕ
 before-nothing = 0 ∷ 1 ∷ 2 ∷ 3 ∷ 4 ∷ []
 
-pub not-stopped : (d : Due) (p : Parameters) (m : Store) → OneOf before-nothing (tagOf the-type d) → isStopped (stageOf d p m) ≡ false
+pub not-stopped : (d : Due) (under : ℕ) (p : Parameters) (m : Store) → OneOf before-nothing (tagOf the-type d) → isStopped (stageOf d under p m) ≡ false
 unfolding stageOf isStopped
-not-stopped Dues.Param p m h = refl
-not-stopped Dues.Matrix p m h = refl
-not-stopped Dues.First p m h = refl
-not-stopped Dues.Leaf p m h = refl
-not-stopped Dues.Challenge p m h = refl
-not-stopped Dues.Nothing p m h = absurd (miss before-nothing (tagOf the-type Dues.Nothing) tt h)
+not-stopped Dues.Param under p m h = refl
+not-stopped Dues.Matrix under p m h = refl
+not-stopped Dues.First under p m h = refl
+not-stopped Dues.Leaf under p m h = refl
+not-stopped Dues.Challenge under p m h = refl
+not-stopped Dues.Nothing under p m h = absurd (miss before-nothing (tagOf the-type Dues.Nothing) tt h)
 
 -- where a run has not stopped, a line that is no record is 13
 pub bad-refused : (n : Counts) (s : Stage) → isStopped s ≡ false → badLine n s ≡ refuse n 13

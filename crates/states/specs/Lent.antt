@@ -13,7 +13,7 @@ use Rattle.lova.specs.Lent.{LentSlice}
 use Rattle.lova.specs.Calls.{Rebuilt, Fits}
 use Rattle.chain.specs.Limits.{small, programLimits, largest}
 use Rattle.chain.specs.Nodes.{Node, nodeOf}
-use Rattle.chain.specs.Chain.{Stage, param, matrix, first, leaf, challenge, stopped, Counts, counted, State, Step, takeDue}
+use Rattle.chain.specs.Chain.{Stage, param, matrix, first, leaf, challenge, stopped, Counts, tally, State, Step, takeDue}
 use Rattle.states.specs.declared.Due.{Due}
 use Rattle.states.specs.declared.Due.the-variants as Dues
 use Rattle.states.specs.declared.Run.{Run}
@@ -50,10 +50,10 @@ abbrev pub withA : List ℕ → Store → Store
 withA A m = store A (m .T₁) (m .D₁) (m .S₁) (m .T₂) (m .D₂) (m .S₂)
 
 abbrev pub withFirst : Node → Store → Store
-withFirst z m = store (m .A) (z .instance .T) (z .instance .D) (z .witness) (m .T₂) (m .D₂) (m .S₂)
+withFirst z m = store (m .A) (z .instance .instance .T) (z .instance .instance .D) (z .witness) (m .T₂) (m .D₂) (m .S₂)
 
 abbrev pub withSecond : Node → Store → Store
-withSecond z m = store (m .A) (m .T₁) (m .D₁) (m .S₁) (z .instance .T) (z .instance .D) (z .witness)
+withSecond z m = store (m .A) (m .T₁) (m .D₁) (m .S₁) (z .instance .instance .T) (z .instance .instance .D) (z .witness)
 
 -- a leaf is the accumulated node where a further leaf is due after it, and the new leaf where a challenge is
 unfoldable pub withLeaf : Due → Node → Store → Store
@@ -68,25 +68,35 @@ withLeaf Dues.Nothing z m = m
 abbrev pub partA : Parameters → List ℕ → List ℕ
 partA p A = take (matrixA p .size) A
 
--- a node is the beginning of its three slices
-abbrev pub partNode : Parameters → List ℕ → List ℤ → List ℤ → Node
-partNode p T D S = nodeOf (take (matrixT p .size) T) (take (matrixD p .size) D) (take (matrixS p .size) S)
+-- a node is the beginning of its three slices, with this leaf count
+abbrev pub partNode : Parameters → List ℕ → List ℤ → ℕ → List ℤ → Node
+partNode p T D leaves S = nodeOf (take (matrixT p .size) T) (take (matrixD p .size) D) leaves (take (matrixS p .size) S)
 
--- what is due, with the matrices that it needs
-unfoldable pub stageOf : Due → Parameters → Store → Stage
-stageOf Dues.Param p m = param
-stageOf Dues.Matrix p m = matrix p
-stageOf Dues.First p m = first p (partA p (m .A))
-stageOf Dues.Leaf p m = leaf p (partA p (m .A)) (partNode p (m .T₁) (m .D₁) (m .S₁))
-stageOf Dues.Challenge p m = challenge p (partA p (m .A)) (partNode p (m .T₁) (m .D₁) (m .S₁)) (partNode p (m .T₂) (m .D₂) (m .S₂))
-stageOf Dues.Nothing p m = stopped
+-- what is due, with the matrices that it needs, and so many leaves under the accumulated node; a new leaf is one
+unfoldable pub stageOf : Due → ℕ → Parameters → Store → Stage
+stageOf Dues.Param under p m = param
+stageOf Dues.Matrix under p m = matrix p
+stageOf Dues.First under p m = first p (partA p (m .A))
+stageOf Dues.Leaf under p m = leaf p (partA p (m .A)) (partNode p (m .T₁) (m .D₁) under (m .S₁))
+stageOf Dues.Challenge under p m =
+    challenge p (partA p (m .A)) (partNode p (m .T₁) (m .D₁) under (m .S₁)) (partNode p (m .T₂) (m .D₂) 1 (m .S₂))
+stageOf Dues.Nothing under p m = stopped
+
+-- the leaves under the accumulated node after a leaf with this count: it is that node where a further leaf is due after it
+unfoldable pub underAfter : Due → ℕ → ℕ → ℕ
+underAfter Dues.Leaf leaves under = leaves
+underAfter Dues.Challenge leaves under = under
+underAfter Dues.Param leaves under = under
+underAfter Dues.Matrix leaves under = under
+underAfter Dues.First leaves under = under
+underAfter Dues.Nothing leaves under = under
 
 -- the counts of a run state
 abbrev pub countsOf : Run → Counts
-countsOf r = counted (r .line) (r .leaves) (r .folds)
+countsOf r = tally (r .line) (r .leaves) (r .folds)
 
 abbrev pub stateOf : Run → Store → State
-stateOf r m = record { counts = countsOf r; stage = stageOf (r .due) (parametersOf (r .setting)) m }
+stateOf r m = record { counts = countsOf r; stage = stageOf (r .due) (r .under) (parametersOf (r .setting)) m }
 
 -- what a method hands back: the run state, and the output at the buffer's start
 abbrev pub stepOf : Taken → Store → List ℕ → Step
@@ -94,7 +104,7 @@ stepOf t m out = record { state = stateOf (t .run) m; output = take (t .length) 
 
 -- what a line that is not too long comes to where this record is due
 abbrev pub lineDue : Due → Run → Store → List ℕ → Step
-lineDue due r m line = takeDue (countsOf r) (stageOf due (parametersOf (r .setting)) m) line
+lineDue due r m line = takeDue (countsOf r) (stageOf due (r .under) (parametersOf (r .setting)) m) line
 
 -- ---- what the methods ask for, and what they keep
 
@@ -121,9 +131,9 @@ pub record Sound (r : Run) : Type 0 where
   pub folds : r .folds ≤ r .line
   pub set : SetFor (r .due) (r .setting)
 
--- the slices of A and of a node have room for the matrices of every setting that the program takes
+-- the slices of A and of a node, whatever its leaf count, have room for the matrices of every setting that the program takes
 abbrev pub LentNode : List ℕ → Node → Type 0
-LentNode A z = Fits (matrixA largest) A × Fits (matrixT largest) (z .instance .T) × Fits (matrixD largest) (z .instance .D) × Fits (matrixS largest) (z .witness)
+LentNode A z = Fits (matrixA largest) A × Fits (matrixT largest) (z .instance .instance .T) × Fits (matrixD largest) (z .instance .instance .D) × Fits (matrixS largest) (z .witness)
 
 -- and so have those of all seven
 pub record Lent (m : Store) : Type 0 where

@@ -15,12 +15,14 @@ pub enum Due {
     Nothing,
 }
 
-// The run state: what is due, how many lines, leaves and folds were taken, and the setting once `param` was taken.
+// The run state: what is due, how many lines, leaves and folds were taken, how many leaves are under the accumulated
+// node, and the setting once `param` was taken.
 pub struct Run {
     pub due: Due,
     pub line: u64,
     pub leaves: u64,
     pub folds: u64,
+    pub under: u32,
     pub setting: Setting,
 }
 
@@ -43,6 +45,7 @@ impl Run {
             line: 0,
             leaves: 0,
             folds: 0,
+            under: 0,
             setting: setting,
         }
     }
@@ -60,6 +63,7 @@ impl Run {
             line: self.line + 1,
             leaves: self.leaves,
             folds: self.folds,
+            under: self.under,
             setting: setting,
         };
         Taken {

@@ -9,9 +9,9 @@ ghost use Rattle.matrices.specs.Matrices.{product, bothSides};
 ghost use Rattle.matrices.specs.Tables.{signed};
 ghost use Rattle.settings.specs.Rules.{firstOf};
 ghost use Rattle.settings.specs.Settings.{parametersOf, HOf};
-ghost use Rattle.lova.specs.Answers.{ends, verdictOf};
+ghost use Rattle.lova.specs.Answers.{ends, verdictOf, verdictLeaves};
 ghost use Rattle.lova.specs.Lent.{instanceBefore, instanceAfter, messageBefore};
-ghost use Rattle.lova.specs.Stored.{rightOf, columnsOf, matrixT, matrixD, rightD, sentT~, sentD~};
+ghost use Rattle.lova.specs.Stored.{counted, rightOf, columnsOf, matrixT, matrixD, rightD, sentT~, sentD~};
 ghost use Rattle.lova.specs.Repeats.{challengeIn};
 ghost use Rattle.lova.specs.Tests.{all, fitsInstance, fitsRight, fitsMessage, fitsC, diagonalWithin};
 ghost use Rattle.lova.specs.Calls.{Rebuilt, Fits, FitsC, Bounded};
@@ -58,15 +58,17 @@ fn lengths_fit(
     scans::instance_fits(setting, Profile::General, t, d)
 }
 
-// 7 where a slice has not the length of its matrix, 9 where a byte of c is above 2, 10 where an entry of dd is above H
-// in size, else 0.
+// 7 where a slice has not the length of its matrix, 15 where the leaf counts cannot be joined, 9 where a byte of c is
+// above 2, 10 where an entry of dd is above H in size, else 0.
 fn verdict_refusal(
     setting: Setting,
     profile: Profile,
     t1: &[u64],
     d1: &[i64],
+    leaves1: u32,
     t2: &[u64],
     d2: &[i64],
+    leaves2: u32,
     v: &[i64],
     tt: &[u64],
     dd: &[i64],
@@ -76,11 +78,14 @@ fn verdict_refusal(
 ) -> u8
     requires { ⌜ Rebuilt setting ⌝ }
     ensures { λ r. ⌜ r
-        ≡ firstOf (verdictRules (parametersOf setting) profile (instanceBefore t1 d1) (instanceBefore t2 d2)
-        (messageBefore v tt dd) (now (c .entry)) (instanceBefore t d)) ⌝ }
+        ≡ firstOf (verdictRules (parametersOf setting) profile (counted (instanceBefore t1 d1) leaves1)
+        (counted (instanceBefore t2 d2) leaves2) (messageBefore v tt dd) (now (c .entry)) (instanceBefore t d)) ⌝ }
 {
     if !lengths_fit(setting, profile, t1, d1, t2, d2, v, tt, dd, c, t, d) {
         return 7;
+    }
+    if !scans::counts_join(leaves1, leaves2) {
+        return 15;
     }
     if !scans::are_ternary(c, setting.columns, setting.t) {
         return 9;
@@ -163,14 +168,16 @@ fn write_folded(
 }
 
 // Judges the message v, tt = T~, dd = D~ on two instances, the second of which may be a fresh one; on yes writes the
-// folded t and d for the challenge c.
+// folded t and d for the challenge c, and the leaves under both are under the folded one.
 pub fn verify(
     setting: Setting,
     profile: Profile,
     t1: &[u64],
     d1: &[i64],
+    leaves1: u32,
     t2: &[u64],
     d2: &[i64],
+    leaves2: u32,
     v: &[i64],
     tt: &[u64],
     dd: &[i64],
@@ -178,9 +185,9 @@ pub fn verify(
     t: &mut [u64],
     d: &mut [i64],
 ) -> Verdict
-    ensures { λ r. ⌜ ends (verdictOf r) (instanceAfter t d)
-        ≡ verdictIn (parametersOf setting) profile (instanceBefore t1 d1) (instanceBefore t2 d2)
-        (messageBefore v tt dd) (now (c .entry)) (instanceBefore t d) ⌝ }
+    ensures { λ r. ⌜ ends (verdictOf r) (counted (instanceAfter t d) (verdictLeaves r))
+        ≡ verdictIn (parametersOf setting) profile (counted (instanceBefore t1 d1) leaves1)
+        (counted (instanceBefore t2 d2) leaves2) (messageBefore v tt dd) (now (c .entry)) (instanceBefore t d) ⌝ }
 {
     let checked = setting.rebuilt();
     let number = checked.refusal;
@@ -188,7 +195,22 @@ pub fn verify(
         return Verdict::Refused(number);
     }
     let accepted = checked.setting;
-    let own = verdict_refusal(accepted, profile, t1, d1, t2, d2, v, tt, dd, c, t, d);
+    let own = verdict_refusal(
+        accepted,
+        profile,
+        t1,
+        d1,
+        leaves1,
+        t2,
+        d2,
+        leaves2,
+        v,
+        tt,
+        dd,
+        c,
+        t,
+        d,
+    );
     if own != 0 {
         return Verdict::Refused(own);
     }
@@ -202,5 +224,5 @@ pub fn verify(
         return Verdict::Commitment;
     }
     write_folded(accepted, profile, tt, dd, c, t, d);
-    Verdict::Yes
+    Verdict::Yes(leaves1 + leaves2)
 }

@@ -120,14 +120,16 @@ fn print_inputs(x: &Inputs) {
 fn print_outcome(x: &Inputs) -> Result<(), u32> {
     let (p, left, right) = (&x.p, &x.left, &x.right);
     let (n, m, t) = (p.n as usize, p.m as usize, p.t as usize);
-    let (mut joined_t, mut joined_d) = (vec![0; 2 * n * t], vec![0; 4 * t * t]);
-    join(p, x.profile, &left.t, &left.d, &right.t, &right.d, &x.sent.v, &mut joined_t, &mut joined_d);
+    let (mut joined_t, mut joined_d, mut leaves) = (vec![0; 2 * n * t], vec![0; 4 * t * t], 0);
+    join(p, x.profile, left.instance(), right.instance(), &x.sent.v, &mut joined_t, &mut joined_d, &mut leaves);
     print_matrix("joined T", n, &joined_t);
     print_matrix("joined D", 2 * t, &joined_d);
+    println!("  joined leaves = {leaves}");
     let (answer, folded) = fold(p, x.profile, &x.a, left, right, &x.c)?;
     println!("  verdict = {}", answer.word());
     print_matrix("T'", n, &folded.t);
     print_matrix("D'", t, &folded.d);
+    println!("  leaves = {}", folded.leaves);
     print_matrix("S'", m, &folded.s);
     println!("  relation = {}", relation(p, &x.a, &folded.t, &folded.d, &folded.s).word());
     Ok(())
@@ -135,10 +137,10 @@ fn print_outcome(x: &Inputs) -> Result<(), u32> {
 
 /// The verdicts on the message with an entry of T~ changed, one of D~, and both.
 fn print_damaged(x: &Inputs) {
-    let (left, right, sent) = (&x.left, &x.right, &x.sent);
+    let (one, two, sent) = (x.left.instance(), x.right.instance(), &x.sent);
     let judge = |tt: &[u64], dd: &[i64]| -> Answer {
-        let (mut t, mut d) = (vec![0; left.t.len()], vec![0; left.d.len()]);
-        verdict(&x.p, x.profile, &left.t, &left.d, &right.t, &right.d, &sent.v, tt, dd, &x.c, &mut t, &mut d)
+        let (mut t, mut d, mut leaves) = (vec![0; one.t.len()], vec![0; one.d.len()], 0);
+        verdict(&x.p, x.profile, one, two, &sent.v, tt, dd, &x.c, &mut t, &mut d, &mut leaves)
     };
     let (mut tt, mut dd) = (sent.tt.clone(), sent.dd.clone());
     tt[1] = tt[1].wrapping_add(1);

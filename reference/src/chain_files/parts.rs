@@ -3,8 +3,8 @@
 /// A good chain with two folds at n = 2, m = 2, t = 1, b = 3, B = 72: k = 3, N = 6, growth just holds.
 ///
 /// It prints, with 2^64 − 12 = 18446744073709551604 and so on:
-/// `leaf 1 (2^64−12) 48 72`, `leaf 2 37 (2^64−15) 65`, `fold 1 yes (2^64−1) 23 13`,
-/// `leaf 3 21 11 13`, `fold 2 yes 14 20 10`, `end 2 member`.
+/// `leaf 1 (2^64−12) 48 72 1`, `leaf 2 37 (2^64−15) 65 1`, `fold 1 yes (2^64−1) 23 13 2`,
+/// `leaf 3 21 11 13 1`, `fold 2 yes 14 20 10 3`, `end 2 member`.
 pub const BASE: [&str; 7] = [
     "param\t2\t2\t1\t3\t72",
     "a\t3\t5\t7\t18446744073709551615",

@@ -1,6 +1,7 @@
 //! What several tests share.
 #![allow(dead_code)]
 
+use reference::operations::Instance;
 use reference::rng::Rng;
 use reference::settings::{refusal, Parameters};
 use reference::tree::{Node, Tree};
@@ -64,6 +65,11 @@ pub fn random_tree(rng: &mut Rng, p: &Parameters, leaves: usize) -> Tree {
     }
     let two = Box::new(random_tree(rng, p, leaves - left));
     Tree::Fold(one, two, random_challenge(rng, p))
+}
+
+/// An instance with one leaf.
+pub fn instance<'a>(t: &'a [u64], d: &'a [i64]) -> Instance<'a> {
+    Instance { t, d, leaves: 1 }
 }
 
 /// The whole number of a byte of C.

@@ -3,12 +3,12 @@ use borrow.Author.Needs.{needs}
 use mathlib.Core.Path.{_≡_, refl, sym, _∙_, ap}
 use lib.IntN.{pos}
 use Rattle.settings.specs.Settings.{Parameters, parametersOf}
-use Rattle.lova.specs.Answers.{verdictOf, ends}
+use Rattle.lova.specs.Answers.{verdictOf, verdictLeaves, ends}
 use Rattle.lova.specs.Stored.{matrixT, matrixS, matrixD}
-use Rattle.chain.specs.Nodes.{Node, nodeOf, callsOf}
+use Rattle.chain.specs.Nodes.{Node, nodeOf, blankNode, callsOf}
 use Rattle.copies.proofs.Blanks.{blank, blank-long, Back, back}
 use Rattle.chain.proofs.Sizes.{Sizes, sizes}
-use Rattle.chain.proofs.Refusing.{node-same, blankNode, fold-ends, fold-refuses}
+use Rattle.chain.proofs.Refusing.{node-same, count-after, count-before, fold-ends, fold-refuses}
 use Rattle.fold_nodes.proofs.fold.Statement.{statement}
 use Rattle.fold_nodes.proofs.fold.Tie as tie
 
@@ -17,10 +17,10 @@ module _ (s : tie.Start) where
   p = parametersOf (s .args .setting)
 
   abbrev first : Node
-  first = nodeOf (s .args .t1 .now) (s .args .d1 .now) (s .args .s1 .now)
+  first = nodeOf (s .args .t1 .now) (s .args .d1 .now) (s .args .leaves1) (s .args .s1 .now)
 
   abbrev second : Node
-  second = nodeOf (s .args .t2 .now) (s .args .d2 .now) (s .args .s2 .now)
+  second = nodeOf (s .args .t2 .now) (s .args .d2 .now) (s .args .leaves2) (s .args .s2 .now)
 
   big : Sizes p
   big = sizes p (s .pre .1 .0)
@@ -30,16 +30,16 @@ abbrev start : tie.After-calls → tie.Start
 start c = c .before .before .before .before .before .before .before .before .before .before .before .before .before .before
 
 abbrev left : tie.After-calls → Node
-left c = nodeOf (c .calls .last .1 .1 .1 .1 .1 .1 .1 .1 .1 .0) (c .calls .last .1 .1 .1 .1 .1 .1 .1 .1 .1 .1 .0) (c .calls .last .1 .1 .1 .1 .1 .1 .1 .1 .1 .1 .1 .0)
+left c = nodeOf (c .calls .last .1 .1 .1 .1 .1 .1 .1 .1 .1 .1 .1 .0) (c .calls .last .1 .1 .1 .1 .1 .1 .1 .1 .1 .1 .1 .1 .0) (verdictLeaves (c .calls .result)) (c .calls .last .1 .1 .1 .1 .1 .1 .1 .1 .1 .1 .1 .1 .1 .0)
 
-T-back : (c : tie.After-calls) → Back (matrixT (p (start c)) .size) 16 0 (left c .instance .T)
-T-back c = back _ 16 0 _ (big (start c) .T-high) (c .calls .kept .1 .1 .1 .1 .1 .1 .1 .1 .1 .0)
+T-back : (c : tie.After-calls) → Back (matrixT (p (start c)) .size) 16 0 (left c .instance .instance .T)
+T-back c = back _ 16 0 _ (big (start c) .T-high) (c .calls .kept .1 .1 .1 .1 .1 .1 .1 .1 .1 .1 .1 .0)
 
-D-back : (c : tie.After-calls) → Back (matrixD (p (start c)) .size) 4 (pos 0) (left c .instance .D)
-D-back c = back _ 4 (pos 0) _ (big (start c) .D-high) (c .calls .kept .1 .1 .1 .1 .1 .1 .1 .1 .1 .1 .0)
+D-back : (c : tie.After-calls) → Back (matrixD (p (start c)) .size) 4 (pos 0) (left c .instance .instance .D)
+D-back c = back _ 4 (pos 0) _ (big (start c) .D-high) (c .calls .kept .1 .1 .1 .1 .1 .1 .1 .1 .1 .1 .1 .1 .0)
 
 S-back : (c : tie.After-calls) → Back (matrixS (p (start c)) .size) 32 (pos 0) (left c .witness)
-S-back c = back _ 32 (pos 0) _ (big (start c) .S-high) (c .calls .kept .1 .1 .1 .1 .1 .1 .1 .1 .1 .1 .1 .0)
+S-back c = back _ 32 (pos 0) _ (big (start c) .S-high) (c .calls .kept .1 .1 .1 .1 .1 .1 .1 .1 .1 .1 .1 .1 .1 .0)
 
 made : (c : tie.After-calls) →
     let s = start c in
@@ -48,7 +48,7 @@ made c =
     let s = start c in
     c .calls .ensures
     ∙ ap (λ (z : Node). callsOf (p s) (s .args .a .now) (first s) (second s) (s .args .c .now) z)
-    (node-same _ _ _ _ _ _ (blank _ 16 0 (big s .T-high)) (blank _ 4 (pos 0) (big s .D-high)) (blank _ 32 (pos 0) (big s .S-high)))
+    (node-same _ _ _ _ _ _ _ _ (blank _ 16 0 (big s .T-high)) (blank _ 4 (pos 0) (big s .D-high)) refl (blank _ 32 (pos 0) (big s .S-high)))
 
 mul-size-t : tie.Need-mul-size-t
 mul-size-t c = search needs
@@ -96,7 +96,9 @@ returns : tie.Need-returns
 returns c =
     let m = c .before .before .before .before .before in
     let s = start m in
-    fold-refuses (p s) (s .args .a .now) (first s) (second s) (s .args .c .now) _ (left m) (made m) (sym (c .before .is-refusal .ensures) ∙ c .if1 .taken)
+    let refused = sym (c .before .is-refusal .ensures) ∙ c .if1 .taken in
+    ap (λ (z : Node). ends (verdictOf (m .calls .result)) z) (node-same _ _ _ _ _ _ _ _ refl refl (count-before _ _ _ refused) refl)
+    ∙ fold-refuses (p s) (s .args .a .now) (first s) (second s) (s .args .c .now) _ (left m) (made m) refused
 
 array-share-prefix-t : tie.Need-array-share-prefix-t
 array-share-prefix-t c = T-back (c .before .before .before .before .before) .fits
@@ -139,8 +141,9 @@ returns-2 c =
     let m = c .before .before .before .before .before .before .before .before .before .before .before .before .before .before .before .before .before .before in
     let s = start m in
     let e = c .before .before .before .before .before .before .before .before .before .before .before .before .before in
-    ap (λ (z : Node). ends (verdictOf (m .calls .result)) z) (node-same _ _ _ _ _ _ (c .before .before .before .before .before .before .before .before .before .before .copy-words .ensures ∙ T-back m .same) (c .before .before .before .before .before .copy-wholes .ensures ∙ D-back m .same) (c .before .copy-wholes2 .ensures ∙ S-back m .same))
-    ∙ fold-ends (p s) (s .args .a .now) (first s) (second s) (s .args .c .now) _ (left m) (made m) (sym (e .before .is-refusal .ensures) ∙ e .if1 .left)
+    let goes-on = sym (e .before .is-refusal .ensures) ∙ e .if1 .left in
+    ap (λ (z : Node). ends (verdictOf (m .calls .result)) z) (node-same _ _ _ _ _ _ _ _ (c .before .before .before .before .before .before .before .before .before .before .copy-words .ensures ∙ T-back m .same) (c .before .before .before .before .before .copy-wholes .ensures ∙ D-back m .same) (count-after _ _ _ goes-on) (c .before .copy-wholes2 .ensures ∙ S-back m .same))
+    ∙ fold-ends (p s) (s .args .a .now) (first s) (second s) (s .args .c .now) _ (left m) (made m) goes-on
 
 pub fold-spec : {M : Type 1} → statement M
 fold-spec =

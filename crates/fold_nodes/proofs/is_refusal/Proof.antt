@@ -1,8 +1,7 @@
 -- `fold_nodes::is_refusal` meets its contract: `Refused` refuses, and every other verdict passes on.
 use borrow.Author.Needs.{needs}
 use mathlib.Core.Path.{sym}
-use Rattle.lova.specs.Answers.{verdictOf}
-use Rattle.chain.specs.Nodes.{refusal, refuses}
+use Rattle.lova.specs.Answers.{verdictOf, refusal, refuses}
 use Rattle.chain.proofs.Refusing.{passes-on}
 use Rattle.fold_nodes.proofs.is_refusal.Statement.{statement}
 use Rattle.fold_nodes.proofs.is_refusal.Tie as tie

@@ -1,4 +1,4 @@
--- `joins::join_refusal` meets its contract: its tests are those of the rule.
+-- `joins::join_refusal` meets its contract: its tests of lengths are those of the first rule, its last test is the second rule's.
 use borrow.Author.Needs.{needs}
 use borrow.Author.Tests.{eq-eqb, ne-eqb, not-true, not-false}
 use mathlib.Core.Path.{_≡_, refl, sym, _∙_, ap}
@@ -11,7 +11,7 @@ use lib.ListN.{length}
 use Rattle.settings.specs.Rules.{firstOf}
 use Rattle.settings.specs.Settings.{parametersOf}
 use Rattle.lova.specs.Stored.{sentV}
-use Rattle.lova.specs.Tests.{fits, fitsInstance, fitsRight}
+use Rattle.lova.specs.Tests.{fits, fitsInstance, fitsRight, fitsJoined}
 use Rattle.lova.specs.Join.{joinRules}
 use Rattle.lova.proofs.Rebuilding.{rebuilt-accepted}
 use Rattle.lova.proofs.Widths.{right-few}
@@ -81,11 +81,25 @@ returns-4 c =
     let v = c .before .before in
     rw (passed-two (v .before .before .before), tested (v .before), eq-eqb _ _ (v .if3 .left), ← c .before .joined-fits .ensures, not-true (c .before .joined-fits .result) (c .if4 .taken)) refl
 
+-- all four tests of lengths passed
+passed-lengths : (c : tie.Else4) →
+    let s = start (c .before .before .before .before .before .before .before .before) in
+    let p = parametersOf (s .args .setting) in
+    (two s && fits (sentV p (s .args .profile)) (s .args .v .now) && fitsJoined p (record { T = s .args .t .now; D = s .args .d .now })) ≡ true
+passed-lengths c =
+    let v = c .before .before in
+    rw (passed-two (v .before .before .before), tested (v .before), eq-eqb _ _ (v .if3 .left)) (sym (c .before .joined-fits .ensures) ∙ not-false (c .before .joined-fits .result) (c .if4 .left))
+
+counts-join-requires : tie.Need-counts-join-requires
+counts-join-requires c κs = search needs
+
 returns-5 : tie.Need-returns-5
 unfolding joinRules firstOf
-returns-5 c =
-    let v = c .before .before in
-    rw (passed-two (v .before .before .before), tested (v .before), eq-eqb _ _ (v .if3 .left), ← c .before .joined-fits .ensures, not-false (c .before .joined-fits .result) (c .if4 .left)) refl
+returns-5 c = rw (passed-lengths (c .before .before), ← c .before .counts-join .ensures, not-true (c .before .counts-join .result) (c .if5 .taken)) refl
+
+returns-6 : tie.Need-returns-6
+unfolding joinRules firstOf
+returns-6 c = rw (passed-lengths (c .before .before), ← c .before .counts-join .ensures, not-false (c .before .counts-join .result) (c .if5 .left)) refl
 
 pub join-refusal-spec : {M : Type 1} → statement M
 join-refusal-spec =
@@ -100,4 +114,6 @@ join-refusal-spec =
     returns-3
     joined-fits-requires
     returns-4
-    returns-5)
+    counts-join-requires
+    returns-5
+    returns-6)

@@ -1,4 +1,4 @@
--- `reports::put_fold` meets its contract: the word, the number, the verdict, T and D.
+-- `reports::put_fold` meets its contract: the word, the number, the verdict, T, D and the leaf count.
 use borrow.Author.Needs.{needs}
 use mathlib.Core.Path.{refl}
 use mathlib.Core.List.{[], _∷_}
@@ -32,20 +32,21 @@ same-length c = search needs
 returns : tie.Need-returns
 unfolding foldText
 returns c =
-    let s = c .before .before .before .before .before .before .before .before .before .before .before .before .before .before .before .before .before .before .before .args in
-    let n = length (s .out .now) in
+    let s = c .before .before .before .before .before .before .before .before .before .before .before .before .before .before .before .before .before .before .before in
     let w = c .before .before .before .before .before .before .before .before .before .before .before .before .before .before .put-bytes in
     let k = c .before .before .before .before .before .before .before .before .before .before .put-number in
     let v = c .before .before .before .before .before .before .put-verdict in
     let i = c .before .before .put-instance in
-    let said = wordOf (verdictOf (s .verdict)) in
-    let word = put-word n (s .out .now) (w .last .0) foldWord (w .result) refl (omega (arith, c .before .before .before .before .before .before .before .before .before .before .before .before .before .before .before .before .before .before .before .pre)) (w .ensures) in
-    let number = put-fields n (w .last .0) (k .last .0) foldWord [] (decimal (s .number) ∷ []) (w .result) (k .result) word
-    (omega (arith, c .before .before .before .before .before .before .before .before .before .before .before .before .before .before .before .before .before .before .before .pre, w .ensures .0, k .ensures .2)) (k .ensures .0) (k .ensures .1) in
-    let verdict = put-fields n (k .last .0) (v .last .0) foldWord (decimal (s .number) ∷ []) (said ∷ []) (k .result) (v .result) number
-    (omega (arith, c .before .before .before .before .before .before .before .before .before .before .before .before .before .before .before .before .before .before .before .pre, w .ensures .0, k .ensures .2, v .ensures .2)) (v .ensures .0) (v .ensures .1) in
-    put-rest n (v .last .0) (i .last .0) foldWord (decimal (s .number) ∷ said ∷ []) (instanceFields (s .t .now) (s .d .now)) (v .result) (i .result) verdict
-    (omega (arith, c .before .before .before .before .before .before .before .before .before .before .before .before .before .before .before .before .before .before .before .pre, w .ensures .0, k .ensures .2, v .ensures .2, i .ensures .2)) (i .ensures .0) (i .ensures .1)
+    let a = s .args in
+    let n = length (a .out .now) in
+    let said = wordOf (verdictOf (a .verdict)) in
+    let word = put-word n (a .out .now) (w .last .0) foldWord (w .result) refl (omega (arith, s .pre)) (w .ensures) in
+    let number = put-fields n (w .last .0) (k .last .0) foldWord [] (decimal (a .number) ∷ []) (w .result) (k .result) word
+    (omega (arith, s .pre, w .ensures .0, k .ensures .2)) (k .ensures .0) (k .ensures .1) in
+    let verdict = put-fields n (k .last .0) (v .last .0) foldWord (decimal (a .number) ∷ []) (said ∷ []) (k .result) (v .result) number
+    (omega (arith, s .pre, w .ensures .0, k .ensures .2, v .ensures .2)) (v .ensures .0) (v .ensures .1) in
+    put-rest n (v .last .0) (i .last .0) foldWord (decimal (a .number) ∷ said ∷ []) (instanceFields (a .t .now) (a .d .now) (a .leaves)) (v .result) (i .result) verdict
+    (omega (arith, s .pre, w .ensures .0, k .ensures .2, v .ensures .2, i .ensures .2)) (i .ensures .0) (i .ensures .1)
 
 pub put-fold-spec : {M : Type 1} → statement M
 put-fold-spec =

@@ -1,4 +1,4 @@
--- `reports::put_leaf` meets its contract: the word, the number, T and D.
+-- `reports::put_leaf` meets its contract: the word, the number, T, D and the leaf count.
 use borrow.Author.Needs.{needs}
 use mathlib.Core.Path.{refl}
 use mathlib.Core.List.{[], _∷_}
@@ -28,16 +28,17 @@ same-length c = search needs
 returns : tie.Need-returns
 unfolding leafText
 returns c =
-    let s = c .before .before .before .before .before .before .before .before .before .before .before .before .before .before .before .args in
-    let n = length (s .out .now) in
+    let s = c .before .before .before .before .before .before .before .before .before .before .before .before .before .before .before in
     let w = c .before .before .before .before .before .before .before .before .before .before .put-bytes in
     let k = c .before .before .before .before .before .before .put-number in
     let i = c .before .before .put-instance in
-    let word = put-word n (s .out .now) (w .last .0) leafWord (w .result) refl (omega (arith, c .before .before .before .before .before .before .before .before .before .before .before .before .before .before .before .pre)) (w .ensures) in
-    let number = put-fields n (w .last .0) (k .last .0) leafWord [] (decimal (s .number) ∷ []) (w .result) (k .result) word
-    (omega (arith, c .before .before .before .before .before .before .before .before .before .before .before .before .before .before .before .pre, w .ensures .0, k .ensures .2)) (k .ensures .0) (k .ensures .1) in
-    put-rest n (k .last .0) (i .last .0) leafWord (decimal (s .number) ∷ []) (instanceFields (s .t .now) (s .d .now)) (k .result) (i .result) number
-    (omega (arith, c .before .before .before .before .before .before .before .before .before .before .before .before .before .before .before .pre, w .ensures .0, k .ensures .2, i .ensures .2)) (i .ensures .0) (i .ensures .1)
+    let a = s .args in
+    let n = length (a .out .now) in
+    let word = put-word n (a .out .now) (w .last .0) leafWord (w .result) refl (omega (arith, s .pre)) (w .ensures) in
+    let number = put-fields n (w .last .0) (k .last .0) leafWord [] (decimal (a .number) ∷ []) (w .result) (k .result) word
+    (omega (arith, s .pre, w .ensures .0, k .ensures .2)) (k .ensures .0) (k .ensures .1) in
+    put-rest n (k .last .0) (i .last .0) leafWord (decimal (a .number) ∷ []) (instanceFields (a .t .now) (a .d .now) (a .leaves)) (k .result) (i .result) number
+    (omega (arith, s .pre, w .ensures .0, k .ensures .2, i .ensures .2)) (i .ensures .0) (i .ensures .1)
 
 pub put-leaf-spec : {M : Type 1} → statement M
 put-leaf-spec =

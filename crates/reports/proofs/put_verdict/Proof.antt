@@ -1,13 +1,24 @@
 -- `reports::put_verdict` meets its contract: the word of each answer.
 use borrow.Author.Needs.{needs}
-use mathlib.Core.Path.{ap}
-use mathlib.Core.List.{[], _∷_}
+use mathlib.Core.Path.{_≡_, ap}
+use mathlib.Core.List.{List, [], _∷_}
+use Prim.Native.Nat.{ℕ, _+_, _≤_}
 use native.Mathlib.Omega.{arith}
+use lib.ListN.{length}
+use Rattle.numerals.specs.Bytes.{written}
+use Rattle.text.specs.Lines.{tabbed}
+use Rattle.lova.specs.declared.Verdict.{Verdict}
 use Rattle.lova.specs.Answers.{verdictOf}
 use Rattle.chain.specs.Reports.{wordOf}
 use Rattle.field_writers.proofs.Puts.{word-put}
 use Rattle.reports.proofs.put_verdict.Statement.{statement}
 use Rattle.reports.proofs.put_verdict.Tie as tie
+
+-- in an arm the verdict is told to be u, and u's word is put: from that what the contract says of the verdict's word
+verdict-put : (c : tie.After-slice-known) {u : Verdict} {e : List ℕ} {r : ℕ} → let s = c .before .args in let said = tabbed (wordOf (verdictOf (s .verdict)) ∷ []) in
+    s .verdict ≡ u → length (wordOf (verdictOf u)) ≤ 15 → (r ≡ s .at + length (9 ∷ wordOf (verdictOf u))) × (e ≡ written (s .out .now) (s .at) (9 ∷ wordOf (verdictOf u)))
+    → (r ≡ s .at + length said) × (e ≡ written (s .out .now) (s .at) said) × (r ≤ s .at + 16)
+verdict-put c told short put = let s = c .before .args in word-put (s .out .now) _ _ _ (s .at) _ (ap (λ v. wordOf (verdictOf v)) told) short put
 
 enum-told : tie.Need-enum-told
 enum-told c = search needs
@@ -59,50 +70,35 @@ same-length c = search needs
 
 returns : tie.Need-returns
 unfolding wordOf verdictOf
-returns c =
-    let s = c .before .before .before .before .before .before .before .before .args in
-    word-put (s .out .now) (c .before .before .put-bytes .last .0) (wordOf (verdictOf (s .verdict))) (121 ∷ 101 ∷ 115 ∷ []) (s .at) (c .before .before .put-bytes .result)
-    (ap (λ v. wordOf (verdictOf v)) (c .before .before .before .before .before .enum-told .given .1)) (omega arith) (c .before .before .put-bytes .ensures)
+returns c = verdict-put (c .before .before .before .before .before .before .before) (c .before .before .before .before .before .enum-told .given .1) (omega arith) (c .before .before .put-bytes .ensures)
 
 same-length-2 : tie.Need-same-length-2
 same-length-2 c = search needs
 
 returns-2 : tie.Need-returns-2
 unfolding wordOf verdictOf
-returns-2 c =
-    let s = c .before .before .before .before .before .before .before .before .args in
-    word-put (s .out .now) (c .before .before .put-bytes2 .last .0) (wordOf (verdictOf (s .verdict))) (108 ∷ 111 ∷ 110 ∷ 103 ∷ []) (s .at) (c .before .before .put-bytes2 .result)
-    (ap (λ v. wordOf (verdictOf v)) (c .before .before .before .before .before .enum-told2 .given .1)) (omega arith) (c .before .before .put-bytes2 .ensures)
+returns-2 c = verdict-put (c .before .before .before .before .before .before .before) (c .before .before .before .before .before .enum-told2 .given .1) (omega arith) (c .before .before .put-bytes2 .ensures)
 
 same-length-3 : tie.Need-same-length-3
 same-length-3 c = search needs
 
 returns-3 : tie.Need-returns-3
 unfolding wordOf verdictOf
-returns-3 c =
-    let s = c .before .before .before .before .before .before .before .before .args in
-    word-put (s .out .now) (c .before .before .put-bytes3 .last .0) (wordOf (verdictOf (s .verdict))) (110 ∷ 111 ∷ 114 ∷ 109 ∷ []) (s .at) (c .before .before .put-bytes3 .result)
-    (ap (λ v. wordOf (verdictOf v)) (c .before .before .before .before .before .enum-told3 .given .1)) (omega arith) (c .before .before .put-bytes3 .ensures)
+returns-3 c = verdict-put (c .before .before .before .before .before .before .before) (c .before .before .before .before .before .enum-told3 .given .1) (omega arith) (c .before .before .put-bytes3 .ensures)
 
 same-length-4 : tie.Need-same-length-4
 same-length-4 c = search needs
 
 returns-4 : tie.Need-returns-4
 unfolding wordOf verdictOf
-returns-4 c =
-    let s = c .before .before .before .before .before .before .before .before .args in
-    word-put (s .out .now) (c .before .before .put-bytes4 .last .0) (wordOf (verdictOf (s .verdict))) (99 ∷ 111 ∷ 109 ∷ 109 ∷ 105 ∷ 116 ∷ 109 ∷ 101 ∷ 110 ∷ 116 ∷ []) (s .at) (c .before .before .put-bytes4 .result)
-    (ap (λ v. wordOf (verdictOf v)) (c .before .before .before .before .before .enum-told4 .given .1)) (omega arith) (c .before .before .put-bytes4 .ensures)
+returns-4 c = verdict-put (c .before .before .before .before .before .before .before) (c .before .before .before .before .before .enum-told4 .given .1) (omega arith) (c .before .before .put-bytes4 .ensures)
 
 same-length-5 : tie.Need-same-length-5
 same-length-5 c = search needs
 
 returns-5 : tie.Need-returns-5
 unfolding wordOf verdictOf
-returns-5 c =
-    let s = c .before .before .before .before .before .before .before .before .args in
-    word-put (s .out .now) (c .before .before .put-bytes5 .last .0) (wordOf (verdictOf (s .verdict))) (114 ∷ 101 ∷ 102 ∷ 117 ∷ 115 ∷ 101 ∷ 100 ∷ []) (s .at) (c .before .before .put-bytes5 .result)
-    (ap (λ v. wordOf (verdictOf v)) (c .before .before .before .before .before .enum-told5 .given .1)) (omega arith) (c .before .before .put-bytes5 .ensures)
+returns-5 c = verdict-put (c .before .before .before .before .before .before .before) (c .before .before .before .before .before .enum-told5 .given .1) (omega arith) (c .before .before .put-bytes5 .ensures)
 
 pub put-verdict-spec : {M : Type 1} → statement M
 put-verdict-spec =

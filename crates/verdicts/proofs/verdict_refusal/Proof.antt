@@ -13,7 +13,7 @@ use Rattle.matrices.specs.Tables.{entry}
 use Rattle.settings.specs.Rules.{firstOf}
 use Rattle.settings.specs.Settings.{Parameters, parametersOf, HOf}
 use Rattle.lova.specs.Stored.{Instance, Message, columnsOf, sentD~}
-use Rattle.lova.specs.Tests.{all, every, bounded, areTernary}
+use Rattle.lova.specs.Tests.{all, every, bounded, areTernary, countsJoin}
 use Rattle.lova.specs.Verdict.{verdictRulesAs}
 use Rattle.lova.proofs.Rebuilding.{rebuilt-accepted, N-is}
 use Rattle.lova.proofs.Tests.{mirrored-test}
@@ -37,34 +37,44 @@ message s = record { «V» = s .args .v .now; T~ = s .args .tt .now; D~ = s .arg
 abbrev out : tie.Start → Instance
 out s = record { T = s .args .t .now; D = s .args .d .now }
 
--- the three tests are the rules'
+-- from past each test to past the one before it, and to the entry
 abbrev start : tie.Else1 → tie.Start
 start c = c .before .before .before .before .before .before .before
 
+abbrev else-1 : tie.Else2 → tie.Else1
+else-1 c = c .before .before
+
+abbrev else-2 : tie.Else3 → tie.Else2
+else-2 c = c .before .before
+
+abbrev else-3 : tie.After-entries-within → tie.Else3
+else-3 c = c .before .before
+
+-- the four tests are the rules', and what is so past each
 lengths : (c : tie.Else1) → let s = start c in lengthsFit (p s) (s .args .profile) (first s) (second s) (message s) (s .args .c .now) (out s) ≡ true
 lengths c = sym (c .before .lengths-fit .ensures) ∙ not-false (c .before .lengths-fit .result) (c .if1 .left)
 
-bytes : (c : tie.After-are-ternary) → let s = start (c .before) in c .are-ternary .result ≡ areTernary (p s) (s .args .c .now)
+counts : (c : tie.Else2) → let s = start (else-1 c) in countsJoin (s .args .leaves1) (s .args .leaves2) ≡ true
+counts c = sym (c .before .counts-join .ensures) ∙ not-false (c .before .counts-join .result) (c .if2 .left)
+
+bytes : (c : tie.After-are-ternary) → let s = start (else-1 (c .before)) in c .are-ternary .result ≡ areTernary (p s) (s .args .c .now)
 unfolding areTernary
 bytes c =
-    let s = start (c .before) in
+    let s = start (else-1 (c .before)) in
     c .are-ternary .ensures ∙ ap (λ (n : ℕ). every n (s .args .setting .t) (λ i j. leb (entry 0 (s .args .setting .t) (s .args .c .now) i j) 2)) (N-is (s .args .setting) (s .pre))
 
--- past the bytes, the entries of D~
-abbrev asked : tie.Else2 → tie.Start
-asked c = start (c .before .before)
-
-abbrev counted : tie.After-entries-within → tie.Else2
-counted c = c .before .before
+ternary : (c : tie.Else3) → let s = start (else-1 (else-2 c)) in areTernary (p s) (s .args .c .now) ≡ true
+ternary c = sym (bytes (c .before)) ∙ not-false (c .before .are-ternary .result) (c .if3 .left)
 
 entries : (c : tie.After-entries-within) →
-    let s = asked (counted c) in
+    let s = start (else-1 (else-2 (else-3 c))) in
     c .entries-within .result ≡ bounded (columnsOf (p s) (s .args .profile)) (columnsOf (p s) (s .args .profile)) (HOf (p s)) (sentD~ (p s) (s .args .profile) .read (s .args .dd .now))
 entries c =
-    let s = asked (counted c) in
+    let e = else-1 (else-2 (else-3 c)) in
+    let s = start e in
     c .entries-within .ensures
     ∙ ap (λ (n : ℕ). all n (λ i. leb (natAbs (getD (s .args .dd .now) i (pos 0))) (HOf (p s))))
-    (D~-length (p s) (s .args .profile) (first s) (second s) (message s) (s .args .c .now) (out s) (lengths (counted c .before .before)))
+    (D~-length (p s) (s .args .profile) (first s) (second s) (message s) (s .args .c .now) (out s) (lengths e))
     ∙ sym (mirrored-test (columnsOf (p s) (s .args .profile)) (HOf (p s)) (s .args .dd .now))
 
 lengths-fit-requires : tie.Need-lengths-fit-requires
@@ -74,53 +84,53 @@ returns : tie.Need-returns
 unfolding verdictRulesAs firstOf
 returns c = rw (← c .before .lengths-fit .ensures, not-true (c .before .lengths-fit .result) (c .if1 .taken)) refl
 
-are-ternary-requires : tie.Need-are-ternary-requires
-are-ternary-requires c κs =
-    let s = start c in
-    rw (N-is (s .args .setting) (s .pre)) (C-length (p s) (s .args .profile) (first s) (second s) (message s) (s .args .c .now) (out s) (lengths c))
+counts-join-requires : tie.Need-counts-join-requires
+counts-join-requires c κs = search needs
 
 returns-2 : tie.Need-returns-2
 unfolding verdictRulesAs firstOf
-returns-2 c = rw (lengths (c .before .before), ← bytes (c .before), not-true (c .before .are-ternary .result) (c .if2 .taken)) refl
+returns-2 c = rw (lengths (c .before .before), ← c .before .counts-join .ensures, not-true (c .before .counts-join .result) (c .if2 .taken)) refl
+
+are-ternary-requires : tie.Need-are-ternary-requires
+are-ternary-requires c κs =
+    let e = else-1 c in
+    let s = start e in
+    rw (N-is (s .args .setting) (s .pre)) (C-length (p s) (s .args .profile) (first s) (second s) (message s) (s .args .c .now) (out s) (lengths e))
+
+returns-3 : tie.Need-returns-3
+unfolding verdictRulesAs firstOf
+returns-3 c =
+    let e = c .before .before in
+    rw (lengths (else-1 e), counts e, ← bytes (c .before), not-true (c .before .are-ternary .result) (c .if3 .taken)) refl
 
 mul-entries-within : tie.Need-mul-entries-within
 mul-entries-within c =
-    let s = asked (c .before) in
+    let s = start (else-1 (else-2 (c .before))) in
     let h = rebuilt-accepted (s .args .setting) (s .pre) .digits-small in
     omega (arith, mul-le-mul h h)
 
 mul-entries-within-2 : tie.Need-mul-entries-within-2
 mul-entries-within-2 c =
-    let s = asked (c .before) in
+    let s = start (else-1 (else-2 (c .before))) in
     let acc = rebuilt-accepted (s .args .setting) (s .pre) in
     omega (arith, mul-le-mul (mul-le-mul (acc .digits-small) (acc .digits-small)) (acc .m-high))
 
 entries-within-requires : tie.Need-entries-within-requires
 entries-within-requires c κs = search needs
 
-returns-3 : tie.Need-returns-3
-unfolding verdictRulesAs firstOf
-returns-3 c =
-    let b = counted (c .before) in
-    rw (
-      lengths (b .before .before),
-      ← bytes (b .before),
-      not-false (b .before .are-ternary .result) (b .if2 .left),
-      ← entries (c .before),
-      not-true (c .before .entries-within .result) (c .if3 .taken),
-    ) refl
-
 returns-4 : tie.Need-returns-4
 unfolding verdictRulesAs firstOf
 returns-4 c =
-    let b = counted (c .before) in
-    rw (
-      lengths (b .before .before),
-      ← bytes (b .before),
-      not-false (b .before .are-ternary .result) (b .if2 .left),
-      ← entries (c .before),
-      not-false (c .before .entries-within .result) (c .if3 .left),
-    ) refl
+    let b = else-3 (c .before) in
+    let e = else-2 b in
+    rw (lengths (else-1 e), counts e, ternary b, ← entries (c .before), not-true (c .before .entries-within .result) (c .if4 .taken)) refl
+
+returns-5 : tie.Need-returns-5
+unfolding verdictRulesAs firstOf
+returns-5 c =
+    let b = else-3 (c .before) in
+    let e = else-2 b in
+    rw (lengths (else-1 e), counts e, ternary b, ← entries (c .before), not-false (c .before .entries-within .result) (c .if4 .left)) refl
 
 pub verdict-refusal-spec : {M : Type 1} → statement M
 verdict-refusal-spec =
@@ -128,10 +138,12 @@ verdict-refusal-spec =
     (tie.spec
     lengths-fit-requires
     returns
-    are-ternary-requires
+    counts-join-requires
     returns-2
+    are-ternary-requires
+    returns-3
     mul-entries-within
     mul-entries-within-2
     entries-within-requires
-    returns-3
-    returns-4)
+    returns-4
+    returns-5)

@@ -1,15 +1,16 @@
 -- `verdicts::verify` meets its contract: refused by the setting's rules or by its own, or judged by the diagonals, then the
--- first equation, then the second; T' and D' are written only where all three hold.
+-- first equation, then the second; T' and D' are written, and the leaves counted, only where all three hold.
 use borrow.Author.Needs.{needs}
 use borrow.Author.Tests.{not-true, not-false}
 use mathlib.Core.Path.{_≡_, sym, _∙_}
 use mathlib.Core.Bool.{true}
 use mathlib.Core.List.{List}
 use Prim.Native.Nat.{_≤_}
+use native.Mathlib.Omega.{arith}
 use Rattle.settings.specs.Rules.{Rule}
 use Rattle.settings.specs.Settings.{Parameters, parametersOf}
 use Rattle.lova.specs.Answers.{verdictOf, Outcome}
-use Rattle.lova.specs.Stored.{Instance, Message}
+use Rattle.lova.specs.Stored.{Instance, Counted, counted, Message}
 use Rattle.lova.specs.Calls.{ProperVerdict, Rebuilt}
 use Rattle.lova.specs.Verdict.{verdictRules, judgedIn, verdictAs, verdictIn}
 use Rattle.lova.proofs.Refusals.{verdict-proper}
@@ -19,13 +20,13 @@ use Rattle.lova.proofs.WaysOut.{out-by-setting, out-by-own, none-applied, out-a
 use Rattle.verdicts.proofs.verify.Statement.{statement}
 use Rattle.verdicts.proofs.verify.Tie as tie
 
--- what is lent, the rules, and what is answered where none of them applies
+-- what is lent, what a refusal leaves, the rules, and what is answered where none of them applies
 module _ (s : tie.Start) where
-  abbrev first : Instance
-  first = record { T = s .args .t1 .now; D = s .args .d1 .now }
+  abbrev first : Counted
+  first = counted (record { T = s .args .t1 .now; D = s .args .d1 .now }) (s .args .leaves1)
 
-  abbrev second : Instance
-  second = record { T = s .args .t2 .now; D = s .args .d2 .now }
+  abbrev second : Counted
+  second = counted (record { T = s .args .t2 .now; D = s .args .d2 .now }) (s .args .leaves2)
 
   abbrev message : Message
   message = record { «V» = s .args .v .now; T~ = s .args .tt .now; D~ = s .args .dd .now }
@@ -33,10 +34,13 @@ module _ (s : tie.Start) where
   abbrev out : Instance
   out = record { T = s .args .t .now; D = s .args .d .now }
 
+  abbrev kept : Counted
+  kept = counted out 0
+
   abbrev rules : Parameters → List Rule
   rules p = verdictRules p (s .args .profile) first second message (s .args .c .now) out
 
-  abbrev answer : Parameters → Outcome Instance
+  abbrev answer : Parameters → Outcome Counted
   answer p = judgedIn p (s .args .profile) first second message (s .args .c .now) out
 
 -- the entry, and the setting that was built anew
@@ -57,7 +61,7 @@ unfolding verdictIn verdictAs verdictOf
 returns c =
     let n = c .before in
     let s = start n in
-    out-by-setting (rules s) (out s) (answer s) (parametersOf (s .args .setting)) (n .rebuilt .result) (n .rebuilt .ensures) (c .if1 .taken)
+    out-by-setting (rules s) (kept s) (answer s) (parametersOf (s .args .setting)) (n .rebuilt .result) (n .rebuilt .ensures) (c .if1 .taken)
 
 -- the new setting is accepted
 again : (c : tie.Else1) → Rebuilt (c .before .rebuilt .result .setting)
@@ -82,7 +86,7 @@ returns-2 c =
     let e = w .before .before .before .before in
     let n = e .before in
     let s = start n in
-    out-by-own (rules s) (out s) (answer s) (parametersOf (s .args .setting)) (n .rebuilt .result) (n .rebuilt .ensures) (e .if1 .left) (w .verdict-refusal .result) (w .verdict-refusal .ensures) (c .if2 .taken)
+    out-by-own (rules s) (kept s) (answer s) (parametersOf (s .args .setting)) (n .rebuilt .result) (n .rebuilt .ensures) (e .if1 .left) (w .verdict-refusal .result) (w .verdict-refusal .ensures) (c .if2 .taken)
 
 -- past the refusals the call is proper, and the answer is that of the three tests
 proper : (c : tie.Else2) →
@@ -93,7 +97,7 @@ proper c =
     let n = new-at c in
     let s = start n in
     verdict-proper (anew n) (s .args .profile) (first s) (second s) (message s) (s .args .c .now) (out s) .0
-    (none-applied (rules s) (out s) (answer s) (parametersOf (s .args .setting)) (n .rebuilt .result) (n .rebuilt .ensures) (else-1 c .if1 .left) (c .before .verdict-refusal .result) (c .before .verdict-refusal .ensures) (c .if2 .left))
+    (none-applied (rules s) (kept s) (answer s) (parametersOf (s .args .setting)) (n .rebuilt .result) (n .rebuilt .ensures) (else-1 c .if1 .left) (c .before .verdict-refusal .result) (c .before .verdict-refusal .ensures) (c .if2 .left))
 
 answers : (c : tie.Else2) →
     let n = new-at c in
@@ -103,7 +107,7 @@ unfolding verdictIn verdictAs
 answers c =
     let n = new-at c in
     let s = start n in
-    out-at-end (rules s) (out s) (answer s) (parametersOf (s .args .setting)) (n .rebuilt .result) (n .rebuilt .ensures) (else-1 c .if1 .left) (c .before .verdict-refusal .result) (c .before .verdict-refusal .ensures) (c .if2 .left)
+    out-at-end (rules s) (kept s) (answer s) (parametersOf (s .args .setting)) (n .rebuilt .result) (n .rebuilt .ensures) (else-1 c .if1 .left) (c .before .verdict-refusal .result) (c .before .verdict-refusal .ensures) (c .if2 .left)
 
 -- from past each test to past the one before it
 abbrev else-2 : tie.Else3 → tie.Else2
@@ -115,6 +119,9 @@ else-3 c = c .before .before
 abbrev else-4 : tie.Else5 → tie.Else4
 else-4 c = c .before .before
 
+abbrev else-5 : tie.After-d → tie.Else5
+else-5 c = c .before .before .before .before .before .before
+
 diagonals-hold-requires : tie.Need-diagonals-hold-requires
 diagonals-hold-requires c κs = let l = proper c .lengths in (l .0 .1, l .1 .1)
 
@@ -122,19 +129,19 @@ diagonals-hold-requires c κs = let l = proper c .lengths in (l .0 .1, l .1 .1)
 diagonals-passed : (c : tie.Else3) →
     let n = new-at (else-2 c) in
     let s = start n in
-    diagonalsOnce (anew n) (s .args .profile) (first s) (second s) ≡ true
+    diagonalsOnce (anew n) (s .args .profile) (first s .instance) (second s .instance) ≡ true
 diagonals-passed c = sym (c .before .diagonals-hold .ensures) ∙ not-false _ (c .if3 .left)
 
 first-passed : (c : tie.Else4) →
     let n = new-at (else-2 (else-3 c)) in
     let s = start n in
-    firstOnce (anew n) (s .args .profile) (first s) (second s) (message s) ≡ true
+    firstOnce (anew n) (s .args .profile) (first s .instance) (second s .instance) (message s) ≡ true
 first-passed c = sym (c .before .norm-holds .ensures) ∙ not-false _ (c .if4 .left)
 
 second-passed : (c : tie.Else5) →
     let n = new-at (else-2 (else-3 (else-4 c))) in
     let s = start n in
-    secondOnce (anew n) (s .args .profile) (first s) (second s) (message s) ≡ true
+    secondOnce (anew n) (s .args .profile) (first s .instance) (second s .instance) (message s) ≡ true
 second-passed c = sym (c .before .commitment-holds .ensures) ∙ not-false _ (c .if5 .left)
 
 -- there is a column
@@ -207,6 +214,12 @@ write-folded-requires c κs =
     let l = proper e .lengths in
     ((again (else-1 e), l .2 .1, l .2 .2, l .3, l .4 .0, l .4 .1), proper e .entries)
 
+-- the sum fits, as the counts can be joined
+add-t30 : tie.Need-add-t30
+add-t30 c =
+    let e = else-2 (else-3 (else-4 (else-5 c))) in
+    omega (arith, proper e .counts .2)
+
 same-length-9 : tie.Need-same-length-9
 same-length-9 c = search needs
 
@@ -216,7 +229,7 @@ same-length-10 c = search needs
 returns-6 : tie.Need-returns-6
 unfolding verdictOf
 returns-6 c =
-    let last = c .before .before .before .before .before .before in
+    let last = else-5 c in
     let f = else-4 last in
     let w = else-3 f in
     let e = else-2 w in
@@ -249,6 +262,7 @@ verify-spec =
     same-length-8
     returns-5
     write-folded-requires
+    add-t30
     same-length-9
     same-length-10
     returns-6)

@@ -1,6 +1,6 @@
--- `verifier_c::lova_verify` meets its contract: the operation's answer and outputs are passed on.
+-- `verifier_c::lova_verify` meets its contract: the operation's answer, outputs and leaf count are passed on.
 use borrow.Author.Needs.{needs}
-use Rattle.codes.proofs.Passing.{passed}
+use Rattle.codes.proofs.Passing.{passed-counted}
 use Rattle.verifier_c.proofs.lova_verify.Statement.{statement}
 use Rattle.verifier_c.proofs.lova_verify.Tie as tie
 
@@ -9,6 +9,9 @@ setting-of-requires c κs = search needs
 
 verify-requires : tie.Need-verify-requires
 verify-requires c κs = search needs
+
+count-of-verdict-requires : tie.Need-count-of-verdict-requires
+count-of-verdict-requires c κs = search needs
 
 code-of-verdict-requires : tie.Need-code-of-verdict-requires
 code-of-verdict-requires c κs = search needs
@@ -21,9 +24,10 @@ same-length-2 c = search needs
 
 returns : tie.Need-returns
 returns c =
-    let call = c .before .before .before .before in
-    let made = call .before .before .before in
-    rw (← made .setting-of .ensures) (passed (call .verify .ensures) (c .code-of-verdict .ensures))
+    let count = c .before in
+    let call = count .before .before .before .before .before in
+    let built = call .before .before .before in
+    rw (← built .setting-of .ensures) (passed-counted _ (call .verify .ensures) (c .code-of-verdict .ensures) (count .count-of-verdict .ensures))
 
 pub lova-verify-spec : {M : Type 1} → statement M
 lova-verify-spec =
@@ -31,6 +35,7 @@ lova-verify-spec =
     (tie.spec
     setting-of-requires
     verify-requires
+    count-of-verdict-requires
     code-of-verdict-requires
     same-length
     same-length-2

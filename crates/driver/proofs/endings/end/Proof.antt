@@ -18,7 +18,7 @@ use Rattle.driver.proofs.endings.end.Tie as tie
 
 -- what the slices hold at entry, whatever the new leaf's hold
 abbrev held : tie.Start → Store → Store
-held s m = withFirst (nodeOf (s .args .t1 .now) (s .args .d1 .now) (s .args .s1 .now)) (withA (s .args .a .now) m)
+held s m = withFirst (nodeOf (s .args .t1 .now) (s .args .d1 .now) 0 (s .args .s1 .now)) (withA (s .args .a .now) m)
 
 -- where a leaf is due
 abbrev start : tie.After-enum-told → tie.Start
@@ -112,7 +112,7 @@ returns-4 c =
     let s = at .before .before .before .before .before .before in
     let run = s .args .state in (
       λ m. end-due run (held s m) (k .last .1 .0) (s .args .rest .now) (k .result) (run .due) (at .before .if1 .left) refl
-          (k .ensures .1 ∙ sym (end-missing (countsOf run) (run .due) (parametersOf (run .setting)) (held s m) (at .match .keys3))),
+          (k .ensures .1 ∙ sym (end-missing (countsOf run) (run .due) (run .under) (parametersOf (run .setting)) (held s m) (at .match .keys3))),
       k .ensures .0,
     )
 

@@ -8,8 +8,8 @@ use lib.IntN.{ℤ, pos}
 use lib.ListN.{take, replicate}
 use Rattle.matrices.specs.Triangles.{triangular}
 use Rattle.settings.specs.Settings.{Parameters, NOf, parametersOf}
-use Rattle.lova.specs.Answers.{answerOf, verdictOf, ends}
-use Rattle.lova.specs.Stored.{Message, Prepared, matrixV}
+use Rattle.lova.specs.Answers.{answerOf, verdictOf, verdictLeaves, ends}
+use Rattle.lova.specs.Stored.{counted, Message, Prepared, matrixV}
 use Rattle.lova.specs.Message.{message}
 use Rattle.lova.specs.Verdict.{verdict}
 use Rattle.lova.specs.Witness.{witness}
@@ -26,13 +26,13 @@ module _ (s : tie.Start) where
   p = parametersOf (s .args .setting)
 
   abbrev first : Node
-  first = nodeOf (s .args .t1 .now) (s .args .d1 .now) (s .args .s1 .now)
+  first = nodeOf (s .args .t1 .now) (s .args .d1 .now) (s .args .leaves1) (s .args .s1 .now)
 
   abbrev second : Node
-  second = nodeOf (s .args .t2 .now) (s .args .d2 .now) (s .args .s2 .now)
+  second = nodeOf (s .args .t2 .now) (s .args .d2 .now) (s .args .leaves2) (s .args .s2 .now)
 
   abbrev out : Node
-  out = nodeOf (s .args .t .now) (s .args .d .now) (s .args .s .now)
+  out = nodeOf (s .args .t .now) (s .args .d .now) 0 (s .args .s .now)
 
   -- N as the setting has it
   abbrev N : ℕ
@@ -177,10 +177,10 @@ fold-answer-requires : tie.Need-fold-answer-requires
 fold-answer-requires c κs = tt
 
 same-length : tie.Need-same-length
-same-length c = c .before .before .before .before .verify .kept .1 .1 .1 .1 .1 .1 .1 .1 .1 .1 .0
+same-length c = c .before .before .before .before .verify .kept .1 .1 .1 .1 .1 .1 .1 .1 .1 .1 .1 .1 .0
 
 same-length-2 : tie.Need-same-length-2
-same-length-2 c = c .before .before .before .before .verify .kept .1 .1 .1 .1 .1 .1 .1 .1 .1 .1 .1 .0
+same-length-2 c = c .before .before .before .before .verify .kept .1 .1 .1 .1 .1 .1 .1 .1 .1 .1 .1 .1 .1 .0
 
 same-length-3 : tie.Need-same-length-3
 same-length-3 c = c .before .before .before .before .before .before .before .before .before .before .before .fold-witness .kept .1 .1 .1 .1 .0
@@ -192,11 +192,12 @@ returns c =
     let v = c .before .before .before .before .verify in
     let s = start m in
     calls-end (p s) (s .args .a .now) (first s) (second s) (s .args .c .now) (out s)
-    (ends (answerOf (m .message .result)) (left m)) (ends (answerOf (f .result)) (f .last .1 .1 .1 .1 .0)) (ends (verdictOf (v .result)) (record { T = v .last .1 .1 .1 .1 .1 .1 .1 .1 .1 .1 .0; D = v .last .1 .1 .1 .1 .1 .1 .1 .1 .1 .1 .1 .0 })) _
+    (ends (answerOf (m .message .result)) (left m)) (ends (answerOf (f .result)) (f .last .1 .1 .1 .1 .0)) (ends (verdictOf (v .result)) (counted (record { T = v .last .1 .1 .1 .1 .1 .1 .1 .1 .1 .1 .1 .1 .0; D = v .last .1 .1 .1 .1 .1 .1 .1 .1 .1 .1 .1 .1 .1 .0 }) (verdictLeaves (v .result)))) _ _
     (said m)
     (f .ensures ∙ ap (λ (x : List ℤ). witness (p s) x (s .args .c .now) (s .args .s .now)) (S~-back m .same))
-    (v .ensures ∙ ap (λ (x : Message). verdict (p s) (first s .instance) (second s .instance) x (s .args .c .now) (out s .instance)) (message-same _ _ _ _ _ _ (V-back m .same) (T~-back m .same) (D~-back m .same)))
-    (c .fold-answer .ensures)
+    (v .ensures ∙ ap (λ (x : Message). verdict (p s) (first s .instance) (second s .instance) x (s .args .c .now) (out s .instance .instance)) (message-same _ _ _ _ _ _ (V-back m .same) (T~-back m .same) (D~-back m .same)))
+    (c .fold-answer .ensures .0)
+    (c .fold-answer .ensures .1)
 
 pub calls-spec : {M : Type 1} → statement M
 calls-spec =

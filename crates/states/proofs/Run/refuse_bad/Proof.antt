@@ -27,7 +27,7 @@ returns-2 c =
     let k = c .before .before .refuse in
     let m = c .before .before .before .before in
     let s = m .before .before .args .self in
-    (λ store. k .ensures .0 store ∙ sym (bad-refused (countsOf s) _ (not-stopped (s .due) (parametersOf (s .setting)) store (m .match .keys2))), k .ensures .1)
+    (λ store. k .ensures .0 store ∙ sym (bad-refused (countsOf s) _ (not-stopped (s .due) (s .under) (parametersOf (s .setting)) store (m .match .keys2))), k .ensures .1)
 
 pub refuse-bad-spec : {M : Type 1} → statement M
 refuse-bad-spec = tie.close (tie.spec enum-told refuse-requires returns same-length returns-2)

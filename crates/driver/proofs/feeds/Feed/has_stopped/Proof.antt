@@ -13,10 +13,12 @@ enum-told c = search needs
 
 returns : tie.Need-returns
 unfolding isStopped stageOf
-returns c = λ m. sym (ap (λ d. isStopped (stageOf d (parametersOf (c .before .before .before .args .self .run .setting)) m)) (c .enum-told .given .1))
+returns c =
+    let run = c .before .before .before .args .self .run in
+    λ m. sym (ap (λ d. isStopped (stageOf d (run .under) (parametersOf (run .setting)) m)) (c .enum-told .given .1))
 
 returns-2 : tie.Need-returns-2
-returns-2 c = λ m. sym (not-stopped _ _ m (c .match .keys2))
+returns-2 c = λ m. sym (not-stopped _ _ _ m (c .match .keys2))
 
 pub has-stopped-spec : {M : Type 1} → statement M
 has-stopped-spec = tie.close (tie.spec enum-told returns returns-2)

@@ -9,12 +9,12 @@ use lib.ListN.{length, take, drop, replicate}
 use Rattle.settings.specs.Settings.{Parameters, parametersOf}
 use Rattle.text.specs.Fields.{recordOf, readTernary}
 use Rattle.text.proofs.Fields.{answer-yes, answer-no}
-use Rattle.lova.specs.Answers.{verdictOf}
+use Rattle.lova.specs.Answers.{verdictOf, verdictLeaves, refusal, refuses, countAfter}
 use Rattle.lova.specs.Stored.{matrixT, matrixS, matrixD, sizeC}
 use Rattle.lova.proofs.Rebuilding.{N-is}
-use Rattle.chain.specs.Nodes.{Node, nodeOf, refusal, refuses}
+use Rattle.chain.specs.Nodes.{Node, nodeOf}
 use Rattle.chain.specs.Chain.{takeDue, cWord}
-use Rattle.chain.proofs.Refusing.{passes-on, fold-kept}
+use Rattle.chain.proofs.Refusing.{node-same, passes-on, count-after, fold-kept}
 use Rattle.copies.proofs.Blanks.{blank-long, Back, back}
 use Rattle.chain.proofs.Sizes.{Sizes, sizes}
 use Rattle.states.specs.Lent.{stageOf, countsOf, partA, partNode, SetFor}
@@ -32,10 +32,10 @@ module _ (s : tie.Start) where
   A = partA p (s .args .a .now)
 
   abbrev accumulated : Node
-  accumulated = partNode p (s .args .t1 .now) (s .args .d1 .now) (s .args .s1 .now)
+  accumulated = partNode p (s .args .t1 .now) (s .args .d1 .now) (s .args .self .run .under) (s .args .s1 .now)
 
   abbrev new : Node
-  new = partNode p (s .args .t2 .now) (s .args .d2 .now) (s .args .s2 .now)
+  new = partNode p (s .args .t2 .now) (s .args .d2 .now) 1 (s .args .s2 .now)
 
   big : Sizes p
   big = sizes p (s .pre .1 .0 .1)
@@ -91,11 +91,11 @@ T-back c = part _ 16 _ (big (begin c) .T-high) (begin c .pre .1 .1 .T₁) _ (c .
 D-back : (c : tie.After-fold) → Part (matrixD (p (begin c)) .size) (begin c .args .d1 .now) (c .fold .last .1 .1 .1 .0)
 D-back c = part _ 4 _ (big (begin c) .D-high) (begin c .pre .1 .1 .D₁) _ (c .fold .kept .1 .1 .1 .0)
 
-S-back : (c : tie.After-fold) → Part (matrixS (p (begin c)) .size) (begin c .args .s1 .now) (c .fold .last .1 .1 .1 .1 .0)
-S-back c = part _ 32 _ (big (begin c) .S-high) (begin c .pre .1 .1 .S₁) _ (c .fold .kept .1 .1 .1 .1 .0)
+S-back : (c : tie.After-fold) → Part (matrixS (p (begin c)) .size) (begin c .args .s1 .now) (c .fold .last .1 .1 .1 .1 .1 .0)
+S-back c = part _ 32 _ (big (begin c) .S-high) (begin c .pre .1 .1 .S₁) _ (c .fold .kept .1 .1 .1 .1 .1 .0)
 
 abbrev left : tie.After-fold → Node
-left c = nodeOf (c .fold .last .1 .1 .0) (c .fold .last .1 .1 .1 .0) (c .fold .last .1 .1 .1 .1 .0)
+left c = nodeOf (c .fold .last .1 .1 .0) (c .fold .last .1 .1 .1 .0) (countAfter (verdictOf (c .fold .result)) (verdictLeaves (c .fold .result)) (begin c .args .self .run .under)) (c .fold .last .1 .1 .1 .1 .1 .0)
 
 mul-size-a : tie.Need-mul-size-a
 mul-size-a c = omega (arith, big (c .before .before .before .before .before .before .before .before) .A-high)
@@ -199,44 +199,50 @@ same-length-5 c = c .before .before .refuse2 .kept .1 .1 .0
 returns-2 : tie.Need-returns-2
 unfolding stageOf takeDue verdictOf refusal refuses
 returns-2 c =
-    let s = c .before .before .before .before .before .before .before .before .before .before .before .before .before .before .before .before .before .before .before .before .before .before .before .before .before .before .before .before .before .before .before .before .before .before .before .before .before in
     let m = c .before .before .before .before .before .before .before .before .before .before .before in
+    let s = begin m in
     let r = c .before .before .refuse2 .ensures in
     let said = ap verdictOf (c .before .before .before .before .before .answer .given .1) in
-    (r .0 _ ∙ sym (challenge-refused (countsOf (s .args .self .run)) (p s) (A s) (accumulated s) (new s) (found s) (entries (m .before .before .before .before .before .before .before .before .before .before .before)) (read (m .before .before .before .before .before .before .before .before .before)) _ (left m) (m .fold .ensures) _ said), (r .1, λ d. node-kept (p s) (s .args .t1 .now) (s .args .d1 .now) (s .args .s1 .now) _ _ _ (fold-kept (p s) (A s) (accumulated s) (new s) (entries (m .before .before .before .before .before .before .before .before .before .before .before)) _ (left m) (m .fold .ensures) (ap refuses said))))
+    (r .0 _ ∙ sym (challenge-refused (countsOf (s .args .self .run)) (p s) (A s) (accumulated s) (new s) (found s) (entries (m .before .before .before .before .before .before .before .before .before .before .before)) (read (m .before .before .before .before .before .before .before .before .before)) _ (left m) (m .fold .ensures) _ said), (r .1, λ d. node-kept (p s) (s .args .t1 .now) (s .args .d1 .now) (s .args .s1 .now) _ _ _ 0 (fold-kept (p s) (A s) (accumulated s) (new s) (entries (m .before .before .before .before .before .before .before .before .before .before .before)) _ (left m) (m .fold .ensures) (ap refuses said))))
+
+leaves-of-requires : tie.Need-leaves-of-requires
+leaves-of-requires c κs = tt
 
 add-put-fold : tie.Need-add-put-fold
-add-put-fold c = omega (arith, c .before .before .before .before .before .before .before .before .before .before .before .before .before .before .before .before .before .before .before .before .before .before .before .before .before .before .before .before .before .before .before .before .before .pre .0 .0 .folds, c .before .before .before .before .before .before .before .before .before .before .before .before .before .before .before .before .before .before .before .before .before .before .before .before .before .before .before .before .before .before .before .before .before .pre .0 .1)
+add-put-fold c = omega (arith, c .before .before .before .before .before .before .before .before .before .before .before .before .before .before .before .before .before .before .before .before .before .before .before .before .before .before .before .before .before .before .before .before .before .before .pre .0 .0 .folds, c .before .before .before .before .before .before .before .before .before .before .before .before .before .before .before .before .before .before .before .before .before .before .before .before .before .before .before .before .before .before .before .before .before .before .pre .0 .1)
 
 slice-reshare-prefix-put-fold : tie.Need-slice-reshare-prefix-put-fold
-slice-reshare-prefix-put-fold c = T-back (c .before .before .before .before .before .before .before) .fits
+slice-reshare-prefix-put-fold c = T-back (c .before .before .before .before .before .before .before .before) .fits
 
 slice-aggregate-put-fold : tie.Need-slice-aggregate-put-fold
-slice-aggregate-put-fold c = sym (T-back (c .before .before .before .before .before .before .before .before) .long)
+slice-aggregate-put-fold c = sym (T-back (c .before .before .before .before .before .before .before .before .before) .long)
 
 slice-reshare-prefix-put-fold-2 : tie.Need-slice-reshare-prefix-put-fold-2
-slice-reshare-prefix-put-fold-2 c = D-back (c .before .before .before .before .before .before .before .before) .fits
+slice-reshare-prefix-put-fold-2 c = D-back (c .before .before .before .before .before .before .before .before .before) .fits
 
 slice-aggregate-put-fold-2 : tie.Need-slice-aggregate-put-fold-2
-slice-aggregate-put-fold-2 c = sym (D-back (c .before .before .before .before .before .before .before .before .before) .long)
+slice-aggregate-put-fold-2 c = sym (D-back (c .before .before .before .before .before .before .before .before .before .before) .long)
+
+cast-put-fold : tie.Need-cast-put-fold
+cast-put-fold c = omega (arith, c .before .before .before .before .leaves-of .ok)
 
 put-fold-requires : tie.Need-put-fold-requires
-put-fold-requires c κs = line-room _ _ _ _ _ (T-back (c .before .before .before .before .before .before .before .before .before) .long) (big (c .before .before .before .before .before .before .before .before .before .before .before .before .before .before .before .before .before .before .before .before .before .before .before .before .before .before .before .before .before .before .before .before .before .before .before) .T-high) (D-back (c .before .before .before .before .before .before .before .before .before) .long) (big (c .before .before .before .before .before .before .before .before .before .before .before .before .before .before .before .before .before .before .before .before .before .before .before .before .before .before .before .before .before .before .before .before .before .before .before) .D-high) (c .before .before .before .before .before .before .before .before .before .before .before .before .before .before .before .before .before .before .before .before .before .before .before .before .before .before .before .before .before .before .before .before .before .before .before .pre .0 .2)
+put-fold-requires c κs = line-room _ _ _ _ _ (T-back (c .before .before .before .before .before .before .before .before .before .before) .long) (big (c .before .before .before .before .before .before .before .before .before .before .before .before .before .before .before .before .before .before .before .before .before .before .before .before .before .before .before .before .before .before .before .before .before .before .before .before) .T-high) (D-back (c .before .before .before .before .before .before .before .before .before .before) .long) (big (c .before .before .before .before .before .before .before .before .before .before .before .before .before .before .before .before .before .before .before .before .before .before .before .before .before .before .before .before .before .before .before .before .before .before .before .before) .D-high) (c .before .before .before .before .before .before .before .before .before .before .before .before .before .before .before .before .before .before .before .before .before .before .before .before .before .before .before .before .before .before .before .before .before .before .before .before .pre .0 .2)
 
-add-t52 : tie.Need-add-t52
-add-t52 c = omega (arith, c .before .before .before .before .before .before .before .before .before .before .before .before .before .before .before .before .before .before .before .before .before .before .before .before .before .before .before .before .before .before .before .before .before .before .before .before .before .before .before .pre .0 .1)
+add-t53 : tie.Need-add-t53
+add-t53 c = omega (arith, c .before .before .before .before .before .before .before .before .before .before .before .before .before .before .before .before .before .before .before .before .before .before .before .before .before .before .before .before .before .before .before .before .before .before .before .before .before .before .before .before .pre .0 .1)
 
 add-t58 : tie.Need-add-t58
-add-t58 c = omega (arith, c .before .before .before .before .before .before .before .before .before .before .before .before .before .before .before .before .before .before .before .before .before .before .before .before .before .before .before .before .before .before .before .before .before .before .before .before .before .before .before .before .pre .0 .0 .folds, c .before .before .before .before .before .before .before .before .before .before .before .before .before .before .before .before .before .before .before .before .before .before .before .before .before .before .before .before .before .before .before .before .before .before .before .before .before .before .before .before .pre .0 .1)
+add-t58 c = omega (arith, c .before .before .before .before .before .before .before .before .before .before .before .before .before .before .before .before .before .before .before .before .before .before .before .before .before .before .before .before .before .before .before .before .before .before .before .before .before .before .before .before .before .pre .0 .0 .folds, c .before .before .before .before .before .before .before .before .before .before .before .before .before .before .before .before .before .before .before .before .before .before .before .before .before .before .before .before .before .before .before .before .before .before .before .before .before .before .before .before .before .pre .0 .1)
 
 same-length-6 : tie.Need-same-length-6
-same-length-6 c = T-back (c .before .before .before .before .before .before .before .before .before .before .before .before .before .before) .count
+same-length-6 c = T-back (c .before .before .before .before .before .before .before .before .before .before .before .before .before .before .before) .count
 
 same-length-7 : tie.Need-same-length-7
-same-length-7 c = D-back (c .before .before .before .before .before .before .before .before .before .before .before .before .before .before) .count
+same-length-7 c = D-back (c .before .before .before .before .before .before .before .before .before .before .before .before .before .before .before) .count
 
 same-length-8 : tie.Need-same-length-8
-same-length-8 c = S-back (c .before .before .before .before .before .before .before .before .before .before .before .before .before .before) .count
+same-length-8 c = S-back (c .before .before .before .before .before .before .before .before .before .before .before .before .before .before .before) .count
 
 same-length-9 : tie.Need-same-length-9
 same-length-9 c = c .before .before .before .before .put-fold .kept .0
@@ -244,10 +250,14 @@ same-length-9 c = c .before .before .before .before .put-fold .kept .0
 returns-3 : tie.Need-returns-3
 unfolding stageOf takeDue SetFor
 returns-3 c =
-    let s = c .before .before .before .before .before .before .before .before .before .before .before .before .before .before .before .before .before .before .before .before .before .before .before .before .before .before .before .before .before .before .before .before .before .before .before .before .before .before .before .before in
-    let m = c .before .before .before .before .before .before .before .before .before .before .before .before .before .before in
-    let put = c .before .before .before .before .put-fold in (
-      challenge-taken (countsOf (s .args .self .run)) (p s) (A s) (accumulated s) (new s) (found s) (entries (m .before .before .before .before .before .before .before .before .before .before .before)) (read (m .before .before .before .before .before .before .before .before .before)) _ (left m) (m .fold .ensures) (passes-on _ (c .before .before .before .before .before .before .before .before .before .match .keys2)) _ (node-back (p s) (s .args .t1 .now) (s .args .d1 .now) (s .args .s1 .now) _ _ _ (T-back m) (D-back m) (S-back m)) (D-back m .long) _ (put .ensures .1),
+    let m = c .before .before .before .before .before .before .before .before .before .before .before .before .before .before .before in
+    let s = begin m in
+    let put = c .before .before .before .before .put-fold in
+    let count = c .before .before .before .before .before .before .before .before .before .leaves-of in
+    let goes-on = passes-on _ (c .before .before .before .before .before .before .before .before .before .before .match .keys2) in
+    let same = node-back (p s) (s .args .t1 .now) (s .args .d1 .now) (s .args .s1 .now) _ _ _ (count .result) (T-back m) (D-back m) (S-back m)
+    ∙ node-same _ _ _ _ _ _ _ _ refl refl (count .ensures ∙ sym (count-after _ _ (s .args .self .run .under) goes-on)) refl in (
+      challenge-taken (countsOf (s .args .self .run)) (p s) (A s) (accumulated s) (new s) (found s) (entries (m .before .before .before .before .before .before .before .before .before .before .before)) (read (m .before .before .before .before .before .before .before .before .before)) _ (left m) (m .fold .ensures) goes-on _ same (D-back m .long) _ (put .ensures .1),
       (
         (record { leaves = omega (arith, s .pre .0 .0 .leaves); folds = omega (arith, s .pre .0 .0 .folds); set = s .pre .1 .0 }, omega arith, omega (arith, put .ensures .0, put .kept .0, s .pre .0 .2)),
         λ d. absurd (leaf-is-due d),
@@ -290,13 +300,15 @@ take-spec =
     same-length-4
     same-length-5
     returns-2
+    leaves-of-requires
     add-put-fold
     slice-reshare-prefix-put-fold
     slice-aggregate-put-fold
     slice-reshare-prefix-put-fold-2
     slice-aggregate-put-fold-2
+    cast-put-fold
     put-fold-requires
-    add-t52
+    add-t53
     add-t58
     same-length-6
     same-length-7

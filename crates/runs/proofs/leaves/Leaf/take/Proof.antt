@@ -10,12 +10,12 @@ use lib.ListN.{length, take, drop, replicate}
 use Rattle.settings.specs.Settings.{Parameters, parametersOf}
 use Rattle.text.specs.Fields.{recordOf, readI64}
 use Rattle.text.proofs.Fields.{answer-yes, answer-no}
-use Rattle.lova.specs.declared.Answer.{Answer}
+use Rattle.lova.specs.declared.Made.{Made}
 use Rattle.lova.specs.Stored.{matrixT, matrixS, matrixD}
-use Rattle.lova.specs.Answers.{answerOf}
-use Rattle.chain.specs.Nodes.{Node, nodeOf, refusal, refuses}
+use Rattle.lova.specs.Answers.{madeOf, madeLeaves, ends, refusal, refuses}
+use Rattle.chain.specs.Nodes.{Node, nodeOf, leafOf}
 use Rattle.chain.specs.Reports.{leafWord}
-use Rattle.chain.proofs.Refusing.{leaf-kept}
+use Rattle.chain.proofs.Refusing.{leaf-kept, leaf-one}
 use Rattle.copies.proofs.Blanks.{blank-long, Back, back}
 use Rattle.chain.proofs.Sizes.{Sizes, sizes}
 use Rattle.states.specs.Lent.{withA, countsOf, partA, partNode}
@@ -33,7 +33,7 @@ module _ (s : tie.Start) where
   A = partA p (s .args .a .now)
 
   abbrev before : Node
-  before = partNode p (s .args .t .now) (s .args .d .now) (s .args .s .now)
+  before = partNode p (s .args .t .now) (s .args .d .now) 0 (s .args .s .now)
 
   big : Sizes p
   big = sizes p (s .pre .1 .0 .0 .1)
@@ -82,8 +82,17 @@ D-back c = part _ 4 _ (big (begin c) .D-high) (begin c .pre .1 .1 .2) _ (c .leaf
 S-back : (c : tie.After-leaf) → Part (matrixS (p (begin c)) .size) (begin c .args .s .now) (c .leaf .last .1 .1 .1 .1 .1 .0)
 S-back c = part _ 32 _ (big (begin c) .S-high) (begin c .pre .1 .1 .3) _ (c .leaf .kept .1 .1 .1 .1 .1 .0)
 
-abbrev left : tie.After-leaf → Node
-left c = nodeOf (c .leaf .last .1 .1 .1 .0) (c .leaf .last .1 .1 .1 .1 .0) (c .leaf .last .1 .1 .1 .1 .1 .0)
+-- with the count of its answer x
+abbrev left : tie.After-leaf → Made → Node
+left c x = nodeOf (c .leaf .last .1 .1 .1 .0) (c .leaf .last .1 .1 .1 .1 .0) (madeLeaves x) (c .leaf .last .1 .1 .1 .1 .1 .0)
+
+abbrev lent-witness : tie.After-leaf → List ℤ
+lent-witness c = witness (c .before .before .before .before .before .before .before .before)
+
+made : (c : tie.After-leaf) (x : Made) → c .leaf .result ≡ x →
+    let s = begin c in
+    ends (madeOf x) (left c x) ≡ leafOf (p s) (A s) (lent-witness c) (before s)
+made c x e = ap (λ (y : Made). ends (madeOf y) (left c y)) (sym e) ∙ c .leaf .ensures
 
 mul-size-a : tie.Need-mul-size-a
 mul-size-a c = omega (arith, big (c .before .before .before .before .before .before .before) .A-high)
@@ -162,32 +171,38 @@ enum-known-answer c = c .match .keys1
 refuse-requires-2 : tie.Need-refuse-requires-2
 refuse-requires-2 c κs = c .before .before .before .before .before .before .before .before .before .before .before .before .before .before .before .before .before .before .before .before .before .before .before .before .before .before .before .before .before .pre .0
 
-enum-told : tie.Need-enum-told
-enum-told c = c .match .keys2
+enum-known-answer-2 : tie.Need-enum-known-answer-2
+enum-known-answer-2 c = c .match .keys2
 
 add-put-leaf : tie.Need-add-put-leaf
-add-put-leaf c = omega (arith, c .before .before .before .before .before .before .before .before .before .before .before .before .before .before .before .before .before .before .before .before .before .before .before .before .before .before .before .before .before .pre .0 .0 .leaves, c .before .before .before .before .before .before .before .before .before .before .before .before .before .before .before .before .before .before .before .before .before .before .before .before .before .before .before .before .before .pre .0 .1)
+add-put-leaf c = omega (arith, c .before .before .before .before .before .before .before .before .before .before .before .before .before .before .before .before .before .before .before .before .before .before .before .before .before .before .before .before .before .before .pre .0 .0 .leaves, c .before .before .before .before .before .before .before .before .before .before .before .before .before .before .before .before .before .before .before .before .before .before .before .before .before .before .before .before .before .before .pre .0 .1)
 
 slice-reshare-prefix-put-leaf : tie.Need-slice-reshare-prefix-put-leaf
-slice-reshare-prefix-put-leaf c = T-back (c .before .before .before .before .before .before .before .before) .fits
+slice-reshare-prefix-put-leaf c = T-back (c .before .before .before .before .before .before .before .before .before) .fits
 
 slice-aggregate-put-leaf : tie.Need-slice-aggregate-put-leaf
-slice-aggregate-put-leaf c = sym (T-back (c .before .before .before .before .before .before .before .before .before) .long)
+slice-aggregate-put-leaf c = sym (T-back (c .before .before .before .before .before .before .before .before .before .before) .long)
 
 slice-reshare-prefix-put-leaf-2 : tie.Need-slice-reshare-prefix-put-leaf-2
-slice-reshare-prefix-put-leaf-2 c = D-back (c .before .before .before .before .before .before .before .before .before) .fits
+slice-reshare-prefix-put-leaf-2 c = D-back (c .before .before .before .before .before .before .before .before .before .before) .fits
 
 slice-aggregate-put-leaf-2 : tie.Need-slice-aggregate-put-leaf-2
-slice-aggregate-put-leaf-2 c = sym (D-back (c .before .before .before .before .before .before .before .before .before .before) .long)
+slice-aggregate-put-leaf-2 c = sym (D-back (c .before .before .before .before .before .before .before .before .before .before .before) .long)
+
+cast-put-leaf : tie.Need-cast-put-leaf
+cast-put-leaf c = omega (arith, c .before .before .before .before .known-told2 .given .0 .1)
 
 put-leaf-requires : tie.Need-put-leaf-requires
-put-leaf-requires c κs = line-room _ _ _ _ _ (T-back (c .before .before .before .before .before .before .before .before .before .before) .long) (big (c .before .before .before .before .before .before .before .before .before .before .before .before .before .before .before .before .before .before .before .before .before .before .before .before .before .before .before .before .before .before .before) .T-high) (D-back (c .before .before .before .before .before .before .before .before .before .before) .long) (big (c .before .before .before .before .before .before .before .before .before .before .before .before .before .before .before .before .before .before .before .before .before .before .before .before .before .before .before .before .before .before .before) .D-high) (c .before .before .before .before .before .before .before .before .before .before .before .before .before .before .before .before .before .before .before .before .before .before .before .before .before .before .before .before .before .before .before .pre .0 .2)
+put-leaf-requires c κs = line-room _ _ _ _ _ (T-back (c .before .before .before .before .before .before .before .before .before .before .before) .long) (big (c .before .before .before .before .before .before .before .before .before .before .before .before .before .before .before .before .before .before .before .before .before .before .before .before .before .before .before .before .before .before .before .before) .T-high) (D-back (c .before .before .before .before .before .before .before .before .before .before .before) .long) (big (c .before .before .before .before .before .before .before .before .before .before .before .before .before .before .before .before .before .before .before .before .before .before .before .before .before .before .before .before .before .before .before .before) .D-high) (c .before .before .before .before .before .before .before .before .before .before .before .before .before .before .before .before .before .before .before .before .before .before .before .before .before .before .before .before .before .before .before .before .pre .0 .2)
 
-add-t44 : tie.Need-add-t44
-add-t44 c = omega (arith, c .before .before .before .before .before .before .before .before .before .before .before .before .before .before .before .before .before .before .before .before .before .before .before .before .before .before .before .before .before .before .before .before .before .before .before .pre .0 .1)
+add-t45 : tie.Need-add-t45
+add-t45 c = omega (arith, c .before .before .before .before .before .before .before .before .before .before .before .before .before .before .before .before .before .before .before .before .before .before .before .before .before .before .before .before .before .before .before .before .before .before .before .before .pre .0 .1)
 
-add-t49 : tie.Need-add-t49
-add-t49 c = omega (arith, c .before .before .before .before .before .before .before .before .before .before .before .before .before .before .before .before .before .before .before .before .before .before .before .before .before .before .before .before .before .before .before .before .before .before .before .before .pre .0 .0 .leaves, c .before .before .before .before .before .before .before .before .before .before .before .before .before .before .before .before .before .before .before .before .before .before .before .before .before .before .before .before .before .before .before .before .before .before .before .before .pre .0 .1)
+add-t50 : tie.Need-add-t50
+add-t50 c = omega (arith, c .before .before .before .before .before .before .before .before .before .before .before .before .before .before .before .before .before .before .before .before .before .before .before .before .before .before .before .before .before .before .before .before .before .before .before .before .before .pre .0 .0 .leaves, c .before .before .before .before .before .before .before .before .before .before .before .before .before .before .before .before .before .before .before .before .before .before .before .before .before .before .before .before .before .before .before .before .before .before .before .before .before .pre .0 .1)
+
+under-after-requires : tie.Need-under-after-requires
+under-after-requires c κs = tt
 
 same-length-2 : tie.Need-same-length-2
 same-length-2 c = T-back (c .before .before .before .before .before .before .before .before .before .before .before) .count
@@ -202,38 +217,40 @@ same-length-5 : tie.Need-same-length-5
 same-length-5 c = c .before .before .refuse2 .kept .1 .1 .0
 
 returns-2 : tie.Need-returns-2
-unfolding answerOf refusal refuses
+unfolding madeOf refusal refuses
 returns-2 c =
-    let s = c .before .before .before .before .before .before .before .before .before .before .before .before .before .before .before .before .before .before .before .before .before .before .before .before .before .before .before .before .before .before .before .before in
     let m = c .before .before .before .before .before .before .before .before .before .before .before in
+    let s = begin m in
     let r = c .before .before .refuse2 .ensures in
-    let said = ap answerOf (c .before .before .before .before .before .answer .given .1) in
-    let S = witness (m .before .before .before .before .before .before .before .before) in (
+    let e = made m _ (c .before .before .before .before .before .answer .given .1) in (
       λ store. r .0 _ ∙ line-refused (s .args .self .run) (s .args .due) (withA (s .args .a .now) store) (s .args .line .now) (s .pre .1 .0 .1) _
-          (leaf-refused (countsOf (s .args .self .run)) (p s) (A s) (found s) S (read (m .before .before .before .before .before .before)) (before s) _ (left m) (m .leaf .ensures) _ said),
-      (r .1, λ d. node-kept (p s) (s .args .t .now) (s .args .d .now) (s .args .s .now) _ _ _ (leaf-kept (p s) (A s) S (before s) _ (left m) (m .leaf .ensures) (ap refuses said))),
+          (leaf-refused (countsOf (s .args .self .run)) (p s) (A s) (found s) (lent-witness m) (read (m .before .before .before .before .before .before)) (before s) _ _ e _ refl),
+      (r .1, λ d. node-kept (p s) (s .args .t .now) (s .args .d .now) (s .args .s .now) _ _ _ 0 (leaf-kept (p s) (A s) (lent-witness m) (before s) _ _ e refl)),
     )
 
 same-length-6 : tie.Need-same-length-6
-same-length-6 c = T-back (c .before .before .before .before .before .before .before .before .before .before .before .before .before .before .before) .count
+same-length-6 c = T-back (c .before .before .before .before .before .before .before .before .before .before .before .before .before .before .before .before .before) .count
 
 same-length-7 : tie.Need-same-length-7
-same-length-7 c = D-back (c .before .before .before .before .before .before .before .before .before .before .before .before .before .before .before) .count
+same-length-7 c = D-back (c .before .before .before .before .before .before .before .before .before .before .before .before .before .before .before .before .before) .count
 
 same-length-8 : tie.Need-same-length-8
-same-length-8 c = S-back (c .before .before .before .before .before .before .before .before .before .before .before .before .before .before .before) .count
+same-length-8 c = S-back (c .before .before .before .before .before .before .before .before .before .before .before .before .before .before .before .before .before) .count
 
 same-length-9 : tie.Need-same-length-9
-same-length-9 c = c .before .before .before .before .put-leaf .kept .0
+same-length-9 c = c .before .before .before .before .before .put-leaf .kept .0
 
 returns-3 : tie.Need-returns-3
-unfolding answerOf refusal refuses
+unfolding madeOf refusal refuses
 returns-3 c =
-    let s = c .before .before .before .before .before .before .before .before .before .before .before .before .before .before .before .before .before .before .before .before .before .before .before .before .before .before .before .before .before .before .before .before .before .before .before .before in
-    let m = c .before .before .before .before .before .before .before .before .before .before .before .before .before .before .before in
-    let put = c .before .before .before .before .put-leaf in (
-      λ store. line-taken (s .args .self .run) (s .args .due) (withA (s .args .a .now) store) (s .args .line .now) (s .pre .1 .0 .1) _ _ _
-          (leaf-taken (countsOf (s .args .self .run)) (p s) (A s) (found s) (witness (m .before .before .before .before .before .before .before .before)) (read (m .before .before .before .before .before .before)) (before s) _ (left m) (m .leaf .ensures) (ap (λ (x : Answer). refuses (answerOf x)) (c .before .before .before .before .before .before .before .before .before .enum-told .given .1)) _ (node-back (p s) _ _ _ _ _ _ (T-back m) (D-back m) (S-back m)) (D-back m .long) _ (put .ensures .1)),
+    let m = c .before .before .before .before .before .before .before .before .before .before .before .before .before .before .before .before .before in
+    let s = begin m in
+    let put = c .before .before .before .before .before .put-leaf in
+    let e = made m _ (c .before .before .before .before .before .before .before .before .before .before .before .answer2 .given .1) in (
+      λ store. line-taken (s .args .self .run) (s .args .due) (withA (s .args .a .now) store) (s .args .line .now) (s .pre .1 .0 .1) _ _ _ _
+          (leaf-one (p s) (A s) (lent-witness m) (before s) _ _ e refl) (c .under-after .ensures) _
+          (leaf-taken (countsOf (s .args .self .run)) (p s) (A s) (found s) (lent-witness m) (read (m .before .before .before .before .before .before)) (before s) _ _ e refl
+          _ (node-back (p s) _ _ _ _ _ _ _ (T-back m) (D-back m) (S-back m)) (D-back m .long) _ (put .ensures .1)),
       (
         (record { leaves = omega (arith, s .pre .0 .0 .leaves); folds = omega (arith, s .pre .0 .0 .folds); set = set-after _ (s .args .due) (s .pre .1 .0 .1) (s .args .self .run .setting) (s .pre .1 .0 .0) }, omega arith, omega (arith, put .ensures .0, put .kept .0, s .pre .0 .2)),
         λ d. absurd (after-leaf-due _ (s .args .due) (s .pre .1 .0 .1) d),
@@ -267,15 +284,17 @@ take-spec =
     leaf-requires
     enum-known-answer
     refuse-requires-2
-    enum-told
+    enum-known-answer-2
     add-put-leaf
     slice-reshare-prefix-put-leaf
     slice-aggregate-put-leaf
     slice-reshare-prefix-put-leaf-2
     slice-aggregate-put-leaf-2
+    cast-put-leaf
     put-leaf-requires
-    add-t44
-    add-t49
+    add-t45
+    add-t50
+    under-after-requires
     same-length-2
     same-length-3
     same-length-4
