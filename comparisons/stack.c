@@ -38,6 +38,12 @@ static void fold_witness(void)
     code = lova_fold_witness(n, m, t, b, bound, ss, m * columns, c, columns * t, s, m * t);
 }
 
+/* S1 and S2 are written as they were. */
+static void recompose(void)
+{
+    code = lova_recompose(n, m, t, b, bound, ss, m * columns, s1, m * t, s2, m * t);
+}
+
 static void join(void)
 {
     code = lova_join(n, m, t, b, bound, t1, n * t, d1, t * t, leaves1, t2, n * t, d2, t * t, leaves2, v, t * t,
@@ -72,6 +78,11 @@ static void fold_witness_fresh(void)
     code = lova_fold_witness_fresh(n, m, t, b, bound, ss, m * fresh_columns, c, columns * t, s, m * t);
 }
 
+static void recompose_fresh(void)
+{
+    code = lova_recompose_fresh(n, m, t, b, bound, ss, m * fresh_columns, s1, m * t, s2, m);
+}
+
 static void join_fresh(void)
 {
     code = lova_join_fresh(n, m, t, b, bound, t1, n * t, d1, t * t, leaves1, t2, n, d2, 1, leaves2, v, t,
@@ -96,12 +107,14 @@ static const struct {
     {"commit", commit, LOVA_COMMIT_STACK},
     {"message", message, LOVA_MESSAGE_STACK},
     {"fold_witness", fold_witness, LOVA_FOLD_WITNESS_STACK},
+    {"recompose", recompose, LOVA_RECOMPOSE_STACK},
     {"join", join, LOVA_JOIN_STACK},
     {"verify", verify, LOVA_VERIFY_STACK},
     {"test_relation", test_relation, LOVA_TEST_RELATION_STACK},
     {"commit_fresh", commit_fresh, LOVA_COMMIT_FRESH_STACK},
     {"message_fresh", message_fresh, LOVA_MESSAGE_FRESH_STACK},
     {"fold_witness_fresh", fold_witness_fresh, LOVA_FOLD_WITNESS_FRESH_STACK},
+    {"recompose_fresh", recompose_fresh, LOVA_RECOMPOSE_FRESH_STACK},
     {"join_fresh", join_fresh, LOVA_JOIN_FRESH_STACK},
     {"verify_fresh", verify_fresh, LOVA_VERIFY_FRESH_STACK},
 };

@@ -16,7 +16,8 @@
  * They answer as the functions without _fresh do when all that is fresh is repeated t times, and so repeated, what they
  * write is what those write.
  *
- * h is b/2 rounded down, and H is h^2 m.
+ * h is b/2 rounded down, and H is h^2 m. S~ has the k digits of each entry of [S1 S2], lowest first, by the digit rule:
+ * the digits of a size lie above -b/2 and are at most b/2, and a negative entry has the negated digits of its size.
  *
  * An instance is its T and D and the number of leaves under it, at most 2^32 - 1. That count is lent as a number, leaves1 or
  * leaves2, and handed back in *leaves_out: 1 by lova_commit, and the sum of both by lova_join and by a yes of lova_verify.
@@ -58,6 +59,7 @@ enum lova_code {
     LOVA_DIGIT = 11,         /* an entry of S~ is above h in size */
     LOVA_UNLISTED = 12,      /* a number outside 1..4 asked of the house list */
     LOVA_LEAVES = 15,        /* leaves1 or leaves2 is 0, or their sum is above 2^32 - 1 */
+    LOVA_OTHER_DIGITS = 16,  /* S~ has digits other than those of the digit rule */
 
     /* words of the verdict and of the relation test */
     LOVA_NORM = 100,         /* verify: the first equation, of the products, fails, and no diagonal entry is long */
@@ -73,12 +75,14 @@ enum lova_stack {
     LOVA_COMMIT_STACK = 4096,
     LOVA_MESSAGE_STACK = 36864,
     LOVA_FOLD_WITNESS_STACK = 20480,
+    LOVA_RECOMPOSE_STACK = 4096,
     LOVA_JOIN_STACK = 4096,
     LOVA_VERIFY_STACK = 24576,
     LOVA_TEST_RELATION_STACK = 12288,
     LOVA_COMMIT_FRESH_STACK = 4096,
     LOVA_MESSAGE_FRESH_STACK = 36864,
     LOVA_FOLD_WITNESS_FRESH_STACK = 20480,
+    LOVA_RECOMPOSE_FRESH_STACK = 4096,
     LOVA_JOIN_FRESH_STACK = 4096,
     LOVA_VERIFY_FRESH_STACK = 24576,
     LOVA_SETTING_STACK = 4096,
@@ -100,6 +104,11 @@ uint8_t lova_message(uint64_t n, uint64_t m, uint64_t t, uint64_t b, uint64_t bo
 uint8_t lova_fold_witness(uint64_t n, uint64_t m, uint64_t t, uint64_t b, uint64_t bound,
                           const int64_t *ss, size_t ss_len, const uint8_t *c, size_t c_len,
                           int64_t *s, size_t s_len);
+
+/* S1 and S2 of the digit witness S~, from S~ alone: done exactly where lova_message writes this S~ for some S1 and S2,
+ * which are then written. Refusals 1 to 6, 7, 11, 8 for a column that S~ stands for, 16. */
+uint8_t lova_recompose(uint64_t n, uint64_t m, uint64_t t, uint64_t b, uint64_t bound,
+                       const int64_t *ss, size_t ss_len, int64_t *s1, size_t s1_len, int64_t *s2, size_t s2_len);
 
 /* [T1 T2], [D1 V; V-transposed D2] and leaves1 + leaves2. Refusals 1 to 6, 7, 15. */
 uint8_t lova_join(uint64_t n, uint64_t m, uint64_t t, uint64_t b, uint64_t bound,
@@ -141,6 +150,11 @@ uint8_t lova_message_fresh(uint64_t n, uint64_t m, uint64_t t, uint64_t b, uint6
 uint8_t lova_fold_witness_fresh(uint64_t n, uint64_t m, uint64_t t, uint64_t b, uint64_t bound,
                                 const int64_t *ss, size_t ss_len, const uint8_t *c, size_t c_len,
                                 int64_t *s, size_t s_len);
+
+/* S1 and the vector of a fresh S~, as lova_recompose gives S1 and S2. Refusals 1 to 6, 7, 11, 8, 16. */
+uint8_t lova_recompose_fresh(uint64_t n, uint64_t m, uint64_t t, uint64_t b, uint64_t bound,
+                             const int64_t *ss, size_t ss_len, int64_t *s1, size_t s1_len,
+                             int64_t *vector, size_t vector_len);
 
 /* The joined T, n by 2t, D, 2t by 2t, and leaves1 + leaves2 of an instance and a fresh one. Refusals 1 to 6, 7, 15. */
 uint8_t lova_join_fresh(uint64_t n, uint64_t m, uint64_t t, uint64_t b, uint64_t bound,

@@ -37,10 +37,12 @@ pub enum Refusal {
     Unlisted = 12,
     /// An instance has 0 leaves, or both have more than 2^32 − 1 together.
     Leaves = 15,
+    /// S~ has digits other than those of the digit rule.
+    OtherDigits = 16,
 }
 
 /// All refusals, in the order of their numbers.
-const REFUSALS: [Refusal; 13] = [
+const REFUSALS: [Refusal; 14] = [
     Refusal::Shape,
     Refusal::Base,
     Refusal::Bound,
@@ -54,6 +56,7 @@ const REFUSALS: [Refusal; 13] = [
     Refusal::Digit,
     Refusal::Unlisted,
     Refusal::Leaves,
+    Refusal::OtherDigits,
 ];
 
 impl Refusal {
@@ -78,6 +81,7 @@ impl Refusal {
             Refusal::Digit => "an entry of S~ is above h in size",
             Refusal::Unlisted => "the house list has the numbers 1 to 4",
             Refusal::Leaves => "an instance has 0 leaves, or both have more than 2^32 − 1 together",
+            Refusal::OtherDigits => "S~ has digits other than those of the digit rule",
         }
     }
 }
@@ -176,7 +180,7 @@ mod tests {
     #[test]
     fn every_refusal_has_its_own_code() {
         let numbers: Vec<u8> = REFUSALS.into_iter().map(Refusal::number).collect();
-        assert_eq!(numbers, [1, 2, 3, 4, 5, 6, 7, 8, 9, 10, 11, 12, 15]);
+        assert_eq!(numbers, [1, 2, 3, 4, 5, 6, 7, 8, 9, 10, 11, 12, 15, 16]);
         for refused in REFUSALS {
             assert_eq!(answer(refused.number()), Err(refused));
             assert_eq!(verdict(refused.number()), Err(refused));
@@ -215,7 +219,7 @@ mod tests {
 
     #[test]
     fn codes_without_a_meaning_are_not_taken_for_one() {
-        for code in [13, 14, 16, 99, 104, 255] {
+        for code in [13, 14, 17, 99, 104, 255] {
             assert!(fails(answer, code) && fails(verdict, code) && fails(membership, code));
         }
         // A word of another operation is none either.

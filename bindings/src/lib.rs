@@ -105,6 +105,31 @@ pub fn fold_witness_fresh(setting: Setting, ss: &[i64], c: &[u8], s_out: &mut [i
     answer(call!(raw::lova_fold_witness_fresh, setting.five(), [ss, c] => [s_out]))
 }
 
+/// Recomposition, from a digit witness back to the witnesses: S~ alone to S1 and S2. Done exactly where [`message`]
+/// writes this S~ for some S1 and S2, which are then written. Other digits may have the same sum, as −1 1 0 0 0 and
+/// 1 0 0 0 0 at b = 2, and are refused.
+///
+/// ```
+/// let (setting, mut s1, mut s2) = (lova::Setting::listed(1)?, [0], [0]);
+/// lova::recompose(setting, &[1, 1, 1, 0, 0, -1, 0, -1, 0, 0], &mut s1, &mut s2)?;
+/// assert_eq!((s1, s2), ([7], [-5]));
+/// let answer = lova::recompose(setting, &[-1, 1, 0, 0, 0, 0, 0, 0, 0, 0], &mut s1, &mut s2);
+/// assert_eq!(answer, Err(lova::Refusal::OtherDigits));
+/// # Ok::<(), lova::Refusal>(())
+/// ```
+///
+/// Refusals: 1 to 6, 7, 11, 8 for a column that S~ stands for, 16.
+pub fn recompose(setting: Setting, ss: &[i64], s1_out: &mut [i64], s2_out: &mut [i64]) -> Answer {
+    answer(call!(raw::lova_recompose, setting.five(), [ss] => [s1_out, s2_out]))
+}
+
+/// [`recompose`] with the S~ of [`message_fresh`], to S1 and the vector.
+///
+/// Refusals: 1 to 6, 7, 11, 8, 16.
+pub fn recompose_fresh(setting: Setting, ss: &[i64], s1_out: &mut [i64], vector_out: &mut [i64]) -> Answer {
+    answer(call!(raw::lova_recompose_fresh, setting.five(), [ss] => [s1_out, vector_out]))
+}
+
 /// Join two instances: T1, D1, T2, D2, V to T = [T1 T2], n by 2t, and D = [D1 V; V-transposed D2], 2t by 2t, with the
 /// leaves of both.
 ///

@@ -2,7 +2,7 @@
 //!
 //! The five numbers of a setting come first; each slice is a pointer and a length. The number of leaves under an instance
 //! stands after its slices: as a number where the instance is read, as a pointer where it is written. Every function
-//! answers 0, a refusal (1 to 12, or 15), or one of the words from 100 on.
+//! answers 0, a refusal (1 to 12, 15 or 16), or one of the words from 100 on.
 
 /// The code of a C function for the five numbers of a setting, the slices that it reads and those that it writes. What
 /// follows the slices of an instance is its number of leaves, or a reference to it.
@@ -45,6 +45,11 @@ extern "C" {
         ss: *const i64, ss_len: usize, c: *const u8, c_len: usize, s_out: *mut i64, s_out_len: usize,
     ) -> u8;
 
+    pub fn lova_recompose(
+        n: u64, m: u64, t: u64, b: u64, bound: u64,
+        ss: *const i64, ss_len: usize, s1_out: *mut i64, s1_out_len: usize, s2_out: *mut i64, s2_out_len: usize,
+    ) -> u8;
+
     pub fn lova_join(
         n: u64, m: u64, t: u64, b: u64, bound: u64,
         t1: *const u64, t1_len: usize, d1: *const i64, d1_len: usize, leaves1: u32,
@@ -76,6 +81,11 @@ extern "C" {
     pub fn lova_fold_witness_fresh(
         n: u64, m: u64, t: u64, b: u64, bound: u64,
         ss: *const i64, ss_len: usize, c: *const u8, c_len: usize, s_out: *mut i64, s_out_len: usize,
+    ) -> u8;
+
+    pub fn lova_recompose_fresh(
+        n: u64, m: u64, t: u64, b: u64, bound: u64,
+        ss: *const i64, ss_len: usize, s1_out: *mut i64, s1_out_len: usize, vector_out: *mut i64, vector_out_len: usize,
     ) -> u8;
 
     pub fn lova_join_fresh(

@@ -179,6 +179,46 @@ fn joined_and_related() {
     assert_eq!(related(22, 50, 11), Ok(Membership::Long));
 }
 
+/// Recompose in setting 1 by both functions, the same at t = 1. S1 and S2 hold 8 before, and after a refusal too.
+#[track_caller]
+fn assert_recomposed(ss: &[i64], expected: Result<[i64; 2], Refusal>) {
+    for recompose in [lova::recompose, lova::recompose_fresh] {
+        let (mut s1, mut s2) = ([8], [8]);
+        assert_eq!(recompose(ONE, ss, &mut s1, &mut s2), expected.map(|_| ()));
+        assert_eq!([s1[0], s2[0]], expected.unwrap_or([8, 8]));
+    }
+}
+
+#[test]
+fn digits_are_recomposed() {
+    assert_recomposed(&printed_message().3, Ok([7, -5]));
+    assert_recomposed(&[0, 1, 0, 1, 0, 0, -1, 0, -1, 0], Ok([10, -10]));
+    // 1 with other digits, 29 with other digits, and both with a digit past h.
+    assert_recomposed(&[-1, 1, 0, 0, 0, 0, 0, 0, 0, 0], Err(Refusal::OtherDigits));
+    assert_recomposed(&[0, 0, 0, 0, 0, -1, 1, 0, 0, 0], Err(Refusal::OtherDigits));
+    assert_recomposed(&[-1, 1, 1, 1, 1, 0, 0, 0, 0, 0], Err(Refusal::LongColumn));
+    assert_recomposed(&[-1, 1, 0, 0, 0, -1, 1, 1, 1, 1], Err(Refusal::LongColumn));
+    assert_recomposed(&[-1, 1, 0, 0, 0, -1, 1, 1, 1, 2], Err(Refusal::Digit));
+    assert_recomposed(&[i64::MIN, 0, 0, 0, 0, 0, 0, 0, 0, 0], Err(Refusal::Digit));
+    assert_recomposed(&[2; 9], Err(Refusal::Length));
+    let (mut s1, mut s2) = ([8], [8]);
+    assert_eq!(lova::recompose(ONE, &[0; 10], &mut [], &mut s2), Err(Refusal::Length));
+    assert_eq!(lova::recompose(ONE, &[0; 10], &mut s1, &mut [8; 2]), Err(Refusal::Length));
+    assert_eq!(lova::recompose(Setting { bound: 99, ..ONE }, &[2; 9], &mut s1, &mut s2), Err(Refusal::Growth));
+    assert_eq!((s1, s2), ([8], [8]));
+}
+
+#[test]
+fn ties_have_the_sign_of_the_entry() {
+    // n = m = t = 1, b = 4: k = 4.
+    let four = Setting::new(1, 1, 1, 4, 256).unwrap();
+    for (low, next, expected) in [(2, 0, Ok(2)), (-2, 0, Ok(-2)), (2, -1, Err(16)), (-2, 1, Err(16))] {
+        let (mut s1, mut s2) = ([8], [8]);
+        let answer = lova::recompose(four, &[0, 0, 0, 0, low, next, 0, 0], &mut s1, &mut s2);
+        assert_eq!(answer.map(|()| s2[0]).map_err(Refusal::number), expected);
+    }
+}
+
 /// n = m = 1, t = 2, b = 5: k = 3 and N = 12, so that a fresh S~ has 9 columns.
 const TWO: Setting = Setting::unchecked(1, 1, 2, 5, 576);
 
@@ -199,6 +239,9 @@ fn a_fresh_fold() {
     let (mut v, mut tt, mut dd, mut ss) = fresh_message(8);
     assert_eq!(lova::message_fresh(TWO, &[3], &[7, -5], &[4], &mut v, &mut tt, &mut dd, &mut ss), Ok(()));
     assert_eq!((v, ss), ([28, -20], [2, 1, 0, 0, -1, 0, -1, 1, 0]));
+    let (mut s1, mut vector) = ([8; 2], [8]);
+    assert_eq!(lova::recompose_fresh(TWO, &ss, &mut s1, &mut vector), Ok(()));
+    assert_eq!((s1, vector), ([7, -5], [4]));
     let (mut t, mut d) = ([8; 4], [8; 16]);
     assert_eq!(lova::join_fresh(TWO, one, two, &v, &mut t, &mut d).map(|joined| joined.leaves), Ok(2));
     assert_eq!(t, [21, 15u64.wrapping_neg(), 12, 12]);
@@ -229,7 +272,11 @@ fn fresh_calls_are_refused() {
     assert_eq!(lova::fold_witness_fresh(TWO, &[3; 9], &FRESH_C, &mut s), Err(Refusal::Digit));
     assert_eq!(lova::fold_witness_fresh(TWO, &[3; 9], &[3; 24], &mut s), Err(Refusal::Challenge));
     assert_eq!(lova::fold_witness_fresh(TWO, &[3; 12], &FRESH_C, &mut s), Err(Refusal::Length));
-    assert_eq!(s, [8; 2]);
+    let mut vector = [8];
+    assert_eq!(lova::recompose_fresh(TWO, &[0, 0, 0, 0, 0, 0, 0, 0, 1], &mut s, &mut vector), Err(Refusal::LongColumn));
+    assert_eq!(lova::recompose_fresh(TWO, &[3; 9], &mut s, &mut vector), Err(Refusal::Digit));
+    assert_eq!(lova::recompose_fresh(TWO, &[3; 12], &mut s, &mut vector), Err(Refusal::Length));
+    assert_eq!((s, vector), ([8; 2], [8]));
 }
 
 /// Ask for a verdict on a fresh fold of zeros with another count, D2, D~ and C. T' and D' hold 8 before, and without a yes

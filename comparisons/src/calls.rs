@@ -18,6 +18,7 @@ pub enum Operation {
     Commit(Profile),
     Message(Profile),
     FoldWitness(Profile),
+    Recompose(Profile),
     Join(Profile),
     Verify(Profile),
     TestRelation,
@@ -52,16 +53,18 @@ pub enum Slice {
 
 impl Operation {
     /// All operations in all profiles.
-    pub const ALL: [Operation; 11] = [
+    pub const ALL: [Operation; 13] = [
         Operation::Commit(General),
         Operation::Message(General),
         Operation::FoldWitness(General),
+        Operation::Recompose(General),
         Operation::Join(General),
         Operation::Verify(General),
         Operation::TestRelation,
         Operation::Commit(Fresh),
         Operation::Message(Fresh),
         Operation::FoldWitness(Fresh),
+        Operation::Recompose(Fresh),
         Operation::Join(Fresh),
         Operation::Verify(Fresh),
     ];
@@ -77,6 +80,7 @@ impl Operation {
             Operation::Commit(profile)
             | Operation::Message(profile)
             | Operation::FoldWitness(profile)
+            | Operation::Recompose(profile)
             | Operation::Join(profile)
             | Operation::Verify(profile) => profile,
             Operation::TestRelation => General,
@@ -100,6 +104,7 @@ impl Operation {
             Operation::Commit(_) | Operation::TestRelation => (n + t) * m * t,
             Operation::Join(_) => (n + t) * t,
             Operation::FoldWitness(_) => m * columns * t,
+            Operation::Recompose(_) => m * columns * 2 * t,
             Operation::Message(_) => (n + columns) * m * columns,
             Operation::Verify(_) => (n + columns) * (m + 3 * t) * columns,
         }
@@ -111,6 +116,7 @@ impl Operation {
             Operation::Commit(_) => &[A, RightS],
             Operation::Message(_) => &[A, S, RightS],
             Operation::FoldWitness(_) => &[DigitS, C],
+            Operation::Recompose(_) => &[DigitS],
             Operation::Join(_) => &[T, D, RightT, RightD, V],
             Operation::Verify(_) => &[T, D, RightT, RightD, V, DigitT, DigitD, C],
             Operation::TestRelation => &[A, T, D, S],
@@ -124,6 +130,7 @@ impl Operation {
             Operation::Verify(_) => &[T, D],
             Operation::Message(_) => &[V, DigitT, DigitD, DigitS],
             Operation::FoldWitness(_) => &[S],
+            Operation::Recompose(_) => &[S, RightS],
             Operation::Join(_) => &[JoinedT, JoinedD],
             Operation::TestRelation => &[],
         }
@@ -259,6 +266,9 @@ impl Call {
             (Operation::FoldWitness(profile), [Numbers(ss), Bytes(c)], [Numbers(s)]) => {
                 library::fold_witness(p, profile, ss, c, lent(s))
             }
+            (Operation::Recompose(profile), [Numbers(ss)], [Numbers(s1), Numbers(s2)]) => {
+                library::recompose(p, profile, ss, lent(s1), lent(s2))
+            }
             (Operation::Join(profile), [_, _, _, _, Numbers(v)], [Words(t), Numbers(d)]) => {
                 let [one, two] = self.instances();
                 library::join(p, profile, one, two, v, lent(t), lent(d), leaves)
@@ -293,6 +303,9 @@ impl Call {
             ) => operations::message(p, profile, a, s1, s2, lent(v), lent(tt), lent(dd), lent(ss)),
             (Operation::FoldWitness(profile), [Numbers(ss), Bytes(c)], [Numbers(s)]) => {
                 operations::folded_witness(p, profile, ss, c, lent(s))
+            }
+            (Operation::Recompose(profile), [Numbers(ss)], [Numbers(s1), Numbers(s2)]) => {
+                operations::recompose(p, profile, ss, lent(s1), lent(s2))
             }
             (Operation::Join(profile), [_, _, _, _, Numbers(v)], [Words(t), Numbers(d)]) => {
                 let [one, two] = self.instances();

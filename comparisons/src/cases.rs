@@ -2,6 +2,7 @@
 
 use crate::calls::{Call, Matrix, Operation, Outputs, Slice, GUARD};
 use crate::inputs::*;
+use crate::recompositions::any_digit_witness;
 use crate::seed::{below, once_in, pick};
 use crate::settings::{accepted_where, bordering_evenly, FULL};
 use crate::verdicts::judged;
@@ -71,6 +72,7 @@ pub fn fitting(rng: &mut Rng, operation: Operation, p: Parameters) -> Call {
         Operation::Commit(profile) => vec![a(rng), s(rng, &second(&p, profile))],
         Operation::Message(profile) => vec![a(rng), s(rng, &p), s(rng, &second(&p, profile))],
         Operation::FoldWitness(profile) => folding(rng, &p, profile),
+        Operation::Recompose(profile) => vec![Slice::Numbers(any_digit_witness(rng, &p, profile))],
         Operation::Join(_) => operation.reads().iter().map(|x| noise(rng, *x, length(x))).collect(),
         Operation::Verify(profile) => judged(rng, &p, profile).slices(),
         Operation::TestRelation => relation(rng, &p),

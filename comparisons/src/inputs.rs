@@ -82,19 +82,32 @@ pub fn witness(rng: &mut Rng, p: &Parameters) -> Vec<i64> {
     s
 }
 
-/// A witness with one column above B: by as little as it can be, or far.
-pub fn long_witness(rng: &mut Rng, p: &Parameters) -> Vec<i64> {
+/// A witness with one column filled up to B, its number, and the place of the row that was filled last.
+fn filled_witness(rng: &mut Rng, p: &Parameters) -> (Vec<i64>, usize, usize) {
     let z = shaped(p);
     let mut s = witness(rng, p);
     let j = below(rng, z.t);
     let last = fill_column(rng, &z, &mut s, j);
-    match rng.word() % 4 {
-        0 => s[last] = pick(rng, &FAR[..9]),
-        1 => {
-            let far = pick(rng, &FAR[..9]);
-            (0..z.m).for_each(|i| s[i * z.t + j] = far);
-        }
-        _ => s[last] += if s[last] < 0 { -1 } else { 1 },
+    (s, j, last)
+}
+
+/// A witness with one column above B by as little as it can be.
+pub fn barely_long_witness(rng: &mut Rng, p: &Parameters) -> Vec<i64> {
+    let (mut s, _, last) = filled_witness(rng, p);
+    s[last] += if s[last] < 0 { -1 } else { 1 };
+    s
+}
+
+/// A witness with one column above B: by as little as it can be, or far.
+pub fn long_witness(rng: &mut Rng, p: &Parameters) -> Vec<i64> {
+    if once_in(rng, 2) {
+        return barely_long_witness(rng, p);
+    }
+    let (mut s, j, last) = filled_witness(rng, p);
+    let far = pick(rng, &FAR[..9]);
+    match once_in(rng, 2) {
+        true => s[last] = far,
+        false => s.iter_mut().skip(j).step_by(p.t as usize).for_each(|entry| *entry = far),
     }
     s
 }

@@ -3,14 +3,21 @@
 #![deny(unsafe_code)]
 #![allow(clippy::too_many_arguments)]
 
+#[cfg(feature = "library")]
 pub mod calls;
+#[cfg(feature = "library")]
 pub mod cases;
 pub mod chains;
 pub mod inputs;
+#[cfg(feature = "library")]
 #[allow(unsafe_code)]
 pub mod library;
+#[cfg(feature = "library")]
+pub mod recompositions;
+#[cfg(feature = "library")]
 pub mod repeats;
 pub mod seed;
 pub mod settings;
 pub mod tally;
+#[cfg(feature = "library")]
 pub mod verdicts;

@@ -50,6 +50,15 @@ pub fn fold_witness(p: &Parameters, profile: Profile, ss: &[i64], c: &[u8], s: &
     call!(function, five(p), [ss, c] => [s])
 }
 
+/// Recomposition.
+pub fn recompose(p: &Parameters, profile: Profile, ss: &[i64], s1: &mut [i64], s2: &mut [i64]) -> u8 {
+    let function = match profile {
+        Profile::General => lova_recompose,
+        Profile::Fresh => lova_recompose_fresh,
+    };
+    call!(function, five(p), [ss] => [s1, s2])
+}
+
 /// Join.
 pub fn join(
     p: &Parameters, profile: Profile, one: Instance, two: Instance, v: &[i64],

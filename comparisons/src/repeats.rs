@@ -13,6 +13,7 @@ impl Operation {
             Operation::Commit(Fresh) => Some(Operation::Commit(General)),
             Operation::Message(Fresh) => Some(Operation::Message(General)),
             Operation::FoldWitness(Fresh) => Some(Operation::FoldWitness(General)),
+            Operation::Recompose(Fresh) => Some(Operation::Recompose(General)),
             Operation::Join(Fresh) => Some(Operation::Join(General)),
             Operation::Verify(Fresh) => Some(Operation::Verify(General)),
             _ => None,

@@ -18,6 +18,24 @@ pub const FULL: Limits = Limits { n: GREATEST_N, m: GREATEST_M, t: GREATEST_T };
 /// The limits of the chain program.
 pub const CHAIN: Limits = Limits { n: 8, m: 16, t: 2 };
 
+/// Large settings, each at some limit: N = 512, m = 4096, the most rows and columns, the greatest b, the greatest k.
+pub const LARGE: [Parameters; 9] = [
+    LIST[1],
+    LIST[2],
+    LIST[3],
+    setting(64, 500, 16, 2, (1 << 30) - 1),
+    setting(64, 4096, 1, 64, 1 << 28),
+    setting(3, 4096, 1, 2, (1 << 48) - 1),
+    setting(64, 16, 16, 32, 67108864),
+    setting(64, 1, 1, 1625, 6972900390624),
+    setting(64, 1, 1, 2, (1 << 60) - 1),
+];
+
+/// A setting from its five numbers.
+pub const fn setting(n: u64, m: u64, t: u64, b: u64, bound: u64) -> Parameters {
+    Parameters { n, m, t, b, bound }
+}
+
 /// Numbers at and past the ends of the ranges.
 const ENDS: [u64; 22] = [
     0, 1, 2, 3, 15, 16, 17, 63, 64, 65, 4095, 4096, 4097, 65535, 65536, 1 << 32, (1 << 32) + 1,

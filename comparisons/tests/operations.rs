@@ -3,13 +3,15 @@
 
 use comparisons::calls::{Call, Matrix, Operation, Slice};
 use comparisons::cases::{any, fitting};
+use comparisons::inputs::shaped;
+use comparisons::recompositions::{borders, BORDERS};
 use comparisons::seed::generator;
-use comparisons::settings::{accepted_where, FULL};
+use comparisons::settings::{accepted_where, FULL, LARGE};
 use comparisons::tally::Tally;
 use reference::matrices::squared_length;
 use reference::operations::Profile::{self, Fresh, General};
 use reference::operations::{Answer, GREATEST_LEAVES};
-use reference::settings::{refusal, Parameters, LIST};
+use reference::settings::{refusal, Parameters};
 
 /// The work of a case, in products of two entries.
 const WORK: u128 = 80_000;
@@ -29,24 +31,6 @@ fn counted(profile: Profile) -> &'static [&'static str] {
     }
 }
 
-/// Large settings, each at some limit: N = 512, m = 4096, the most rows and columns, the greatest b, the greatest k.
-const LARGE: [Parameters; 9] = [
-    LIST[1],
-    LIST[2],
-    LIST[3],
-    setting(64, 500, 16, 2, (1 << 30) - 1),
-    setting(64, 4096, 1, 64, 1 << 28),
-    setting(3, 4096, 1, 2, (1 << 48) - 1),
-    setting(64, 16, 16, 32, 67108864),
-    setting(64, 1, 1, 1625, 6972900390624),
-    setting(64, 1, 1, 2, (1 << 60) - 1),
-];
-
-/// A setting from its five numbers.
-const fn setting(n: u64, m: u64, t: u64, b: u64, bound: u64) -> Parameters {
-    Parameters { n, m, t, b, bound }
-}
-
 /// Compare this many random calls of an operation, and count what they answer and the borders that they reach.
 fn compared(operation: Operation, cases: u64) -> Tally {
     let name = operation.name();
@@ -64,6 +48,7 @@ fn compared(operation: Operation, cases: u64) -> Tally {
             note_diagonals(&mut tally, &call, answer);
             note_symmetry(&mut tally, &call, answer, case);
             note_leaves(&mut tally, &call, answer);
+            note_digits(&mut tally, &call, answer);
         }
     }
     tally
@@ -159,6 +144,14 @@ fn note_leaves(tally: &mut Tally, call: &Call, answer: Answer) {
     }
 }
 
+/// Count recompositions at the borders.
+fn note_digits(tally: &mut Tally, call: &Call, answer: Answer) {
+    let (Operation::Recompose(profile), [Slice::Numbers(ss)]) = (call.operation, &call.read[..]) else { return };
+    if answer != Answer::Refused(7) {
+        borders(&shaped(&call.p), profile, ss, answer).iter().for_each(|border| tally.note(border));
+    }
+}
+
 /// The borders of leaf counts.
 const LEAVES: [&str; 6] = [
     "refused(15)", "7 before 15", "no leaves in the first", "no leaves in the second", "one leaf too many",
@@ -203,6 +196,24 @@ fn fold_witness() {
 #[test]
 fn fold_witness_fresh() {
     compare(Operation::FoldWitness(Fresh), 12000, &["done", "N is 512", "refused(9)", "refused(11)"]);
+}
+
+/// Compare recompositions; each answer is to be frequent.
+fn compare_recompositions(profile: Profile, cases: u64) {
+    let tally = compared(Operation::Recompose(profile), cases);
+    let answers = [("done", 8), ("refused(8)", 20), ("refused(11)", 20), ("refused(16)", 40)];
+    assert_frequent(&tally, cases, answers);
+    tally.finish(&[&COMMON[..], &answers.map(|(word, _)| word), &["N is 512"], &BORDERS, counted(profile)].concat());
+}
+
+#[test]
+fn recompose() {
+    compare_recompositions(General, 16000);
+}
+
+#[test]
+fn recompose_fresh() {
+    compare_recompositions(Fresh, 10000);
 }
 
 /// Compare joins; both answers are to be frequent.

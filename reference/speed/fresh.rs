@@ -94,6 +94,19 @@ pub fn fold_witness_fresh(p: [u64; 5], ss: &[i64], c: &[u8], s: &mut [i64]) -> u
     0
 }
 
+/// Recomposition: 0, or the refusal.
+#[inline(never)]
+pub fn recompose_fresh(p: [u64; 5], ss: &[i64], s1: &mut [i64], vector: &mut [i64]) -> u8 {
+    let z = match shape(p) {
+        Ok(z) => z,
+        Err(number) => return number,
+    };
+    if ss.len() != z.m * fresh_columns(&z) || s1.len() != z.m * z.t || vector.len() != z.m {
+        return 7;
+    }
+    write_recomposed(&z, ss, 1, s1, vector)
+}
+
 /// Join: 0, or the refusal.
 #[inline(never)]
 pub fn join_fresh(

@@ -1,6 +1,6 @@
-//! The six operations and their products as a careful Rust user writes them: loops over slices with iterators, rows in the
-//! order of memory, nothing tuned by hand. The speed table compiles this file twice, with `-O` and with `-O` for the
-//! processor at hand, and holds the static library against both. `fresh` has the operations with a fresh witness.
+//! The seven operations and their products as a careful Rust user writes them: loops over slices with iterators, rows
+//! in the order of memory, nothing tuned by hand. The speed table compiles this file twice, with `-O` and with `-O` for
+//! the processor at hand, and holds the static library against both. `fresh` has the operations with a fresh witness.
 
 mod fresh;
 
@@ -200,19 +200,34 @@ pub fn fold_products(d: &[i64], c: &[u8], columns: usize, t: usize, out: &mut [i
     fold_transposed(c, &right, |v| ternary(*v), t, out);
 }
 
+/// The lowest digit of a size in balanced base b; the rest of the size is left for the next.
+fn next_digit(rest: &mut u64, b: u64) -> i64 {
+    let low = *rest % b;
+    *rest /= b;
+    let mut d = low as i64;
+    if low > b / 2 {
+        d -= b as i64;
+        *rest += 1;
+    }
+    d
+}
+
 /// Writes the digits of x in balanced base b, lowest first.
 fn write_digits(x: i64, b: u64, out: &mut [i64]) {
     let mut rest = x.unsigned_abs();
     for digit in out {
-        let low = rest % b;
-        rest /= b;
-        let mut d = low as i64;
-        if low > b / 2 {
-            d -= b as i64;
-            rest += 1;
-        }
+        let d = next_digit(&mut rest, b);
         *digit = if x < 0 { -d } else { d };
     }
+}
+
+/// Whether these are the digits of x in balanced base b, lowest first.
+fn are_digits(x: i64, b: u64, digits: &[i64]) -> bool {
+    let mut rest = x.unsigned_abs();
+    digits.iter().all(|digit| {
+        let d = next_digit(&mut rest, b);
+        *digit == if x < 0 { -d } else { d }
+    })
 }
 
 /// The k digits of each entry of s, entry after entry.
@@ -326,6 +341,48 @@ pub fn fold_witness(p: [u64; 5], ss: &[i64], c: &[u8], s: &mut [i64]) -> u8 {
     0
 }
 
+/// The entries of [S1 S2], which has so many columns, that the digits of S~ stand for; or the refusal.
+fn recomposed_entries(z: &Shape, ss: &[i64], wide: usize) -> Result<Vec<i64>, u8> {
+    if ss.iter().any(|x| x.unsigned_abs() > z.h) {
+        return Err(11);
+    }
+    let both: Vec<i64> = ss.chunks_exact(z.k).map(|block| recomposed(z, block)).collect();
+    if !columns_within(&both, wide, z.bound) {
+        return Err(8);
+    }
+    if !both.iter().zip(ss.chunks_exact(z.k)).all(|(x, block)| are_digits(*x, z.b, block)) {
+        return Err(16);
+    }
+    Ok(both)
+}
+
+/// Writes the witnesses that S~ stands for, where s2 has so many columns: 0, or the refusal.
+fn write_recomposed(z: &Shape, ss: &[i64], columns: usize, s1: &mut [i64], s2: &mut [i64]) -> u8 {
+    let both = match recomposed_entries(z, ss, z.t + columns) {
+        Ok(both) => both,
+        Err(number) => return number,
+    };
+    let rows = s1.chunks_exact_mut(z.t).zip(s2.chunks_exact_mut(columns));
+    for (row, (left, right)) in both.chunks_exact(z.t + columns).zip(rows) {
+        left.copy_from_slice(&row[..z.t]);
+        right.copy_from_slice(&row[z.t..]);
+    }
+    0
+}
+
+/// Recomposition: 0, or the refusal.
+#[inline(never)]
+pub fn recompose(p: [u64; 5], ss: &[i64], s1: &mut [i64], s2: &mut [i64]) -> u8 {
+    let z = match shape(p) {
+        Ok(z) => z,
+        Err(number) => return number,
+    };
+    if ss.len() != z.m * z.columns || s1.len() != z.m * z.t || s2.len() != z.m * z.t {
+        return 7;
+    }
+    write_recomposed(&z, ss, z.t, s1, s2)
+}
+
 /// Join: 0, or the refusal.
 #[inline(never)]
 pub fn join(
@@ -352,7 +409,7 @@ fn diagonal_within(d: &[i64], cols: usize, bound: u64) -> bool {
     d.iter().step_by(cols + 1).all(|x| *x <= bound as i64)
 }
 
-/// The sum of the entries of a block, each times its power of b: it stays within the width.
+/// The sum of the entries of a block, each times its power of b: the width keeps it within a word.
 fn recomposed(z: &Shape, block: &[i64]) -> i64 {
     block.iter().zip(&z.powers).map(|(x, p)| x * *p as i64).sum()
 }

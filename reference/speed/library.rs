@@ -76,6 +76,14 @@ pub fn fold_witness_fresh(p: [u64; 5], ss: &[i64], c: &[u8], s: &mut [i64]) -> u
     call!(lova_fold_witness_fresh, p, [ss, c] => [s])
 }
 
+pub fn recompose(p: [u64; 5], ss: &[i64], s1: &mut [i64], s2: &mut [i64]) -> u8 {
+    call!(lova_recompose, p, [ss] => [s1, s2])
+}
+
+pub fn recompose_fresh(p: [u64; 5], ss: &[i64], s1: &mut [i64], vector: &mut [i64]) -> u8 {
+    call!(lova_recompose_fresh, p, [ss] => [s1, vector])
+}
+
 pub fn join(
     p: [u64; 5], t1: &[u64], d1: &[i64], leaves1: u32, t2: &[u64], d2: &[i64], leaves2: u32, v: &[i64],
     t: &mut [u64], d: &mut [i64], leaves: &mut u32,

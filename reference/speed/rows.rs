@@ -1,4 +1,4 @@
-//! What is timed: the digits and the four costly products alone, the six operations, and those of a fold with a fresh witness.
+//! What is timed: the digits and the four costly products alone, the seven operations, and those with a fresh witness.
 
 use crate::cases::Case;
 use crate::library;
@@ -108,8 +108,8 @@ fn parts(z: &Case) -> [Work; 5] {
     ]
 }
 
-/// The six operations; both instances are leaves.
-fn operations(z: &Case) -> [Work; 6] {
+/// The seven operations; both instances are leaves.
+fn operations(z: &Case) -> [Work; 7] {
     let instance = || Out::of(z.n * z.t, [z.t * z.t, 0, 0]);
     let sent = Out::of(z.n * z.columns, [z.t * z.t, plain::triangle(z.columns), z.m * z.columns]);
     let message = variants!(m, z, o, {
@@ -121,6 +121,10 @@ fn operations(z: &Case) -> [Work; 6] {
         o.code = m::verify(z.p, &z.t1, &z.d1, 1, &z.t2, &z.d2, 1, &z.v, &z.tt, &z.dd, &z.c, t, d, &mut o.leaves)
     });
     let fold = variants!(m, z, o, o.code = m::fold_witness(z.p, &z.ss, &z.c, &mut o.whole[0]));
+    let recompose = variants!(m, z, o, {
+        let [s1, s2, _] = &mut o.whole;
+        o.code = m::recompose(z.p, &z.ss, s1, s2)
+    });
     let commit = variants!(m, z, o, {
         o.code = m::commit(z.p, &z.a, &z.s1, &mut o.words, &mut o.whole[0], &mut o.leaves)
     });
@@ -133,6 +137,7 @@ fn operations(z: &Case) -> [Work; 6] {
         Work { name: "message", out: sent, calls: message },
         Work { name: "verdict", out: instance(), calls: verify },
         Work { name: "folded witness", out: Out::of(0, [z.m * z.t, 0, 0]), calls: fold },
+        Work { name: "recompose", out: Out::of(0, [z.m * z.t, z.m * z.t, 0]), calls: recompose },
         Work { name: "commit", out: instance(), calls: commit },
         Work { name: RELATION_TEST, out: Out::of(0, [0, 0, 0]), calls: test },
         Work { name: "join", out: Out::of(2 * z.n * z.t, [4 * z.t * z.t, 0, 0]), calls: join },
@@ -143,7 +148,7 @@ fn operations(z: &Case) -> [Work; 6] {
 const RELATION_TEST: &str = "relation test";
 
 /// The operations with a fresh witness, in the order of the general ones.
-fn fresh_operations(z: &Case) -> [Work; 5] {
+fn fresh_operations(z: &Case) -> [Work; 6] {
     let columns = z.fresh.columns;
     let message = variants!(m, z, o, {
         let [v, dd, ss] = &mut o.whole;
@@ -154,6 +159,10 @@ fn fresh_operations(z: &Case) -> [Work; 5] {
         o.code = m::verify_fresh(z.p, &z.t1, &z.d1, 1, &x.t2, &x.d2, 1, &x.v, &x.tt, &x.dd, &z.c, t, d, &mut o.leaves)
     });
     let fold = variants!(m, z, o, o.code = m::fold_witness_fresh(z.p, &z.fresh.ss, &z.c, &mut o.whole[0]));
+    let recompose = variants!(m, z, o, {
+        let [s1, vector, _] = &mut o.whole;
+        o.code = m::recompose_fresh(z.p, &z.fresh.ss, s1, vector)
+    });
     let commit = variants!(m, z, o, {
         o.code = m::commit_fresh(z.p, &z.a, &z.fresh.vector, &mut o.words, &mut o.whole[0], &mut o.leaves)
     });
@@ -166,6 +175,7 @@ fn fresh_operations(z: &Case) -> [Work; 5] {
         Work { name: "fresh message", out: sent, calls: message },
         Work { name: "fresh verdict", out: Out::of(z.n * z.t, [z.t * z.t, 0, 0]), calls: verify },
         Work { name: "fresh witness", out: Out::of(0, [z.m * z.t, 0, 0]), calls: fold },
+        Work { name: "fresh recompose", out: Out::of(0, [z.m * z.t, z.m, 0]), calls: recompose },
         Work { name: "fresh commit", out: Out::of(z.n, [1, 0, 0]), calls: commit },
         Work { name: "fresh join", out: Out::of(2 * z.n * z.t, [4 * z.t * z.t, 0, 0]), calls: join },
     ]

@@ -1,5 +1,7 @@
 //! Matrices stored by rows.
 
+use std::ops::Range;
+
 /// The words as whole numbers.
 pub fn whole(words: &[i64]) -> Vec<i128> {
     words.iter().map(|x| *x as i128).collect()
@@ -57,9 +59,14 @@ pub fn repeated_square<T: Copy>(a: &[T], columns: usize, first: usize, times: us
     repeated(&wide, wide.len(), first * row, times)
 }
 
+/// The columns of a matrix from one number to another.
+pub fn columns_of<T: Copy>(a: &[T], columns: usize, kept: Range<usize>) -> Vec<T> {
+    a.chunks_exact(columns).flat_map(|row| row[kept.clone()].to_vec()).collect()
+}
+
 /// The first columns of a matrix.
 pub fn cut<T: Copy>(a: &[T], columns: usize, kept: usize) -> Vec<T> {
-    a.chunks_exact(columns).flat_map(|row| row[..kept].to_vec()).collect()
+    columns_of(a, columns, 0..kept)
 }
 
 /// The first rows and columns of a square matrix.

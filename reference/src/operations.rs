@@ -2,7 +2,7 @@
 //!
 //! A fresh second witness is one vector that stands for t equal columns. The operations of a fold take a profile, and
 //! go by request 2's own sentence: all that is fresh is repeated t times, the general fold is made, and what is
-//! written is cut down to the fresh form.
+//! written is cut down to the fresh form. Recomposition, which is no part of a fold, does the same.
 //!
 //! D~ is stored as its lower triangle by rows. The verdict goes by request 3's own sentence: that on a triangle is that
 //! on its mirrored square.
@@ -280,5 +280,31 @@ pub fn folded_witness(p: &Parameters, profile: Profile, ss: &[i64], c: &[u8], s_
     }
     let ss = repeated(ss, columns, z.k * t, profile.times(&z));
     s_out.copy_from_slice(&words(&product(&whole(&ss), &whole(&c), m, z.columns, t)));
+    Answer::Done
+}
+
+/// Recomposition: S~ alone to the witnesses that it stands for, [S1 S2] = S~ G. Done where S~ has the digits that the
+/// digit rule gives them.
+pub fn recompose(p: &Parameters, profile: Profile, ss: &[i64], s1_out: &mut [i64], s2_out: &mut [i64]) -> Answer {
+    let Ok(z) = shape(p) else { return Answer::Refused(refusal(p)) };
+    let (m, t, right, columns) = (z.m, z.t, profile.right(&z), profile.columns(&z));
+    if misfit(&[(ss.len(), m * columns), (s1_out.len(), m * t), (s2_out.len(), m * right)]) {
+        return Answer::Refused(7);
+    }
+    if ss.iter().any(|x| x.unsigned_abs() > z.h) {
+        return Answer::Refused(11);
+    }
+    let ss = repeated(ss, columns, z.k * t, profile.times(&z));
+    let g: Vec<i128> = gadget(&z).iter().map(|x| *x as i128).collect();
+    let both = words(&product(&whole(&ss), &g, m, z.columns, 2 * t));
+    let (s1, s2) = (columns_of(&both, 2 * t, 0..t), columns_of(&both, 2 * t, t..2 * t));
+    if has_long_column(&z, &s1) || has_long_column(&z, &s2) {
+        return Answer::Refused(8);
+    }
+    if digit_matrix(&both, m, 2 * t, z.b, z.k) != ss {
+        return Answer::Refused(16);
+    }
+    s1_out.copy_from_slice(&s1);
+    s2_out.copy_from_slice(&cut(&s2, t, right));
     Answer::Done
 }

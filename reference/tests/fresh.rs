@@ -2,7 +2,7 @@
 
 mod common;
 use common::*;
-use reference::matrices::{cut, cut_square, lower, mirrored, repeated, repeated_square};
+use reference::matrices::{columns_of, cut, cut_square, lower, mirrored, repeated, repeated_square};
 use reference::operations::Answer::*;
 use reference::operations::Profile::{Fresh, General};
 use reference::operations::*;
@@ -101,6 +101,7 @@ fn matrices_repeated_and_cut() {
     assert_eq!(repeated_square(&[7], 1, 0, 2), [7; 4]);
     assert_eq!(repeated_square(&[1, 2, 3, 4], 2, 1, 2), [1, 2, 2, 3, 4, 4, 3, 4, 4]);
     assert_eq!(cut(&[1, 2, 3, 4, 5, 6], 3, 2), [1, 2, 4, 5]);
+    assert_eq!(columns_of(&[1, 2, 3, 4, 5, 6], 3, 1..3), [2, 3, 5, 6]);
     assert_eq!(cut_square(&[1, 2, 3, 4, 5, 6, 7, 8, 9], 3, 2), [1, 2, 4, 5]);
 }
 

@@ -252,6 +252,7 @@ fn bad_settings_come_first_in_every_operation() {
         let answer = verdict(&p, profile, none, none, &[], &[], &[9], &[3], &mut t, &mut d, &mut 0);
         assert_eq!(answer, Refused(number));
         assert_eq!(folded_witness(&p, profile, &[9], &[3], &mut s), Refused(number));
+        assert_eq!(recompose(&p, profile, &[9], &mut v, &mut s), Refused(number));
         assert_eq!((t, d, v, s), ([7; 3], [7; 3], [7; 3], [7; 3]));
     }
 }

@@ -5,7 +5,7 @@ use lib.Dec.{eqb}
 use Rattle.lova.specs.Answers.{Meaning, done, «yes», norm, commitment, long, products, member, refused, countAfter, Outcome, ends}
 use Rattle.lova.specs.Stored.{Counted, counted}
 
--- 0 for done, yes and member; a refusal's own number, 1 to 12 and 15; 100 to 103 for the other words
+-- 0 for done, yes and member; a refusal's own number, 1 to 12, 15 and 16; 100 to 103 for the other words
 unfoldable pub codeOf : Meaning → ℕ
 codeOf done = 0
 codeOf «yes» = 0

@@ -1,6 +1,7 @@
 -- Each outcome of a fresh call is the general call's, with all that is fresh repeated t times: answers, refusals and outputs.
 use mathlib.Core.Path.{_≡_, refl, sym, _∙_, ap, ap₂}
 use mathlib.Core.Bool.{Bool, true, false, not, _&&_}
+use mathlib.Core.Logic.{_↔_}
 use mathlib.Core.List.{List, [], _∷_}
 use Prim.Native.Nat.{ℕ, _+_, zero, suc}
 use native.Mathlib.Omega.{arith}
@@ -14,17 +15,19 @@ use Rattle.settings.specs.Settings.{Parameters, settingRefusal, hOf, HOf}
 use Rattle.settings.proofs.Accepted.{accepted}
 use Rattle.lova.specs.declared.Profile.the-variants.{General, Fresh}
 use Rattle.lova.specs.Answers.{afterSetting, done, Outcome, ends, unlessRefused}
-use Rattle.lova.specs.Stored.{Instance, Counted, counted, Message, Prepared, sentS~, sentD~, matrixS~, matrixD~}
-use Rattle.lova.specs.Tests.{shortRight, areTernary, countsJoin}
-use Rattle.lova.specs.Calls.{CommitLengths, JoinLengths, MessageLengths, VerdictLengths, WitnessLengths}
-use Rattle.lova.specs.Repeats.{repeatedS, repeatedInstance, repeatedCounted, repeatedV, repeatedMessage, repeatedS~, repeatedPrepared, expanded, meant}
+use Rattle.lova.specs.Stored.{Instance, Counted, counted, Message, Prepared, Witnesses, columnsOf, sentS~, sentD~, matrixS~, matrixD~}
+use Rattle.lova.specs.Tests.{shortRight, areTernary, countsJoin, bounded}
+use Rattle.lova.specs.Calls.{CommitLengths, JoinLengths, MessageLengths, VerdictLengths, WitnessLengths, RecomposeLengths}
+use Rattle.lova.specs.Repeats.{repeatedS, repeatedInstance, repeatedCounted, repeatedV, repeatedMessage, repeatedS~, repeatedWitnesses, repeatedPrepared, expanded, meant}
 use Rattle.lova.specs.Commit.{commitRules, commitIn}
 use Rattle.lova.specs.Join.{joinRules, joinedInstance, joinIn}
 use Rattle.lova.specs.Message.{messageRules, messageIn}
 use Rattle.lova.specs.Verdict.{verdictRulesAs, verdictRules, verdictAs, verdictIn}
 use Rattle.lova.specs.Witness.{witnessRules, foldedWitness, witnessIn}
-use Rattle.lova.proofs.Tests.{short-iff, same-bound}
-use Rattle.lova.proofs.Refusals.{setting-decides, own-decides, commitLens, joinLens, messageLens, verdictLens, witnessLens}
+use Rattle.lova.specs.Recompose.{shortRecomposed, followsRule, recomposeRules, recomposeIn}
+use Rattle.lova.proofs.Tests.{short-iff, same-bound, recomposed-iff, rule-iff}
+use Rattle.lova.proofs.Refusals.{setting-decides, own-decides, commitLens, joinLens, messageLens, verdictLens, witnessLens, recomposeLens}
+use Rattle.lova.proofs.FreshRecomposed.{short-repeats, rule-repeats, witnesses-repeat}
 use Rattle.lova.proofs.Judged.{judged-same}
 use Rattle.lova.proofs.Repeated as Repeated
 use Rattle.lova.proofs.BothProfiles as BothProfiles
@@ -40,6 +43,10 @@ skips : (c : Bool) (n : ℕ) (rs : List Rule) → T c → firstOf ((not c gives 
 unfolding firstOf
 skips true n rs h = refl
 skips false n rs h = absurd h
+
+-- two tests of what holds alike
+same-by : {P Q : Type 0} (a b : Bool) → T a ↔ P → T b ↔ Q → P ↔ Q → a ≡ b
+same-by a b f g h = same-test a b (λ x. g .1 (h .0 (f .0 x))) (λ x. f .1 (h .1 (g .0 x)))
 
 -- own rules that agree for an accepted setting give the same number
 same-number : (p : Parameters) (own own′ : List Rule) → (settingRefusal p ≡ 0 → firstOf own ≡ firstOf own′) → firstOf (afterSetting p own) ≡ firstOf (afterSetting p own′)
@@ -122,3 +129,22 @@ module _ (p : Parameters) where
       skips (witnessLens p Fresh S~ C out .test) 7 _ (witnessLens p Fresh S~ C out .says .1 l)
       ∙ ap (λ (c : Bool). firstOf ((not (areTernary p C) gives 9) ∷ (not c gives 11) ∷ [])) (same-bound _ _ _ _ (hOf p) (sentS~ p Fresh .read S~) (matrixS~ p .read (repeatedS~ p Fresh S~)) (Repeated.S~-bounds p (accepted p ok .t-low) (hOf p) S~))
       ∙ sym (skips (witnessLens p General (repeatedS~ p Fresh S~) C out .test) 7 _ (witnessLens p General (repeatedS~ p Fresh S~) C out .says .1 (length-table _ _ _, l .1, l .2)))))
+
+  pub recompose-repeats : (S~ : List ℤ) (out : Witnesses) → RecomposeLengths p Fresh S~ out
+      → expanded (repeatedWitnesses p Fresh) (recomposeIn p Fresh S~ out) ≡ recomposeIn p General (repeatedS~ p Fresh S~) (repeatedWitnesses p Fresh out)
+  unfolding recomposeIn recomposeRules
+  recompose-repeats S~ out l =
+      let R = repeatedS~ p Fresh S~ in
+      let put = repeatedWitnesses p Fresh out in
+      expands (repeatedWitnesses p Fresh) _ out _
+      ∙ ap₂ (λ (r : ℕ) (o : Witnesses). unlessRefused r put (ends done o))
+      (same-number p (recomposeRules p Fresh S~ out) (recomposeRules p General R put) (λ ok.
+      let low = accepted p ok .t-low in
+      skips (recomposeLens p Fresh S~ out .test) 7 _ (recomposeLens p Fresh S~ out .says .1 l)
+      ∙ ap (λ (c : Bool). firstOf ((not c gives 11) ∷ (not (shortRecomposed p Fresh S~) gives 8) ∷ (not (followsRule p Fresh S~) gives 16) ∷ []))
+      (same-bound _ _ _ _ (hOf p) (sentS~ p Fresh .read S~) (matrixS~ p .read R) (Repeated.S~-bounds p low (hOf p) S~))
+      ∙ ap₂ (λ (x y : Bool). firstOf ((not (bounded (p .m) (columnsOf p General) (hOf p) (matrixS~ p .read R)) gives 11) ∷ (not x gives 8) ∷ (not y gives 16) ∷ []))
+      (same-by (shortRecomposed p Fresh S~) (shortRecomposed p General R) (recomposed-iff p Fresh S~) (recomposed-iff p General R) (short-repeats p S~ low))
+      (same-by (followsRule p Fresh S~) (followsRule p General R) (rule-iff p Fresh S~) (rule-iff p General R) (rule-repeats p S~ low))
+      ∙ sym (skips (recomposeLens p General R put .test) 7 _ (recomposeLens p General R put .says .1 (length-table _ _ _, l .1, length-table _ _ _)))))
+      (witnesses-repeat p S~)

@@ -12,9 +12,11 @@ pub mod Judged
 pub mod Contracted
 pub mod Repeated
 pub mod FreshEquations
+pub mod Recomposing
 pub mod OneFold
 pub mod BothProfiles
 pub mod FreshTests
+pub mod FreshRecomposed
 pub mod FreshOutcomes
 pub mod Mirrored
 pub mod Computed
@@ -22,6 +24,7 @@ pub mod Honest
 pub mod ThreeTests
 pub mod Exact
 pub mod NeverWraps
+pub mod Undone
 pub mod Theorems
 pub mod Points
 pub mod Examples

@@ -17,6 +17,7 @@ use Rattle.lova.specs.Commit.{commitRules, instanceIn, commitIn}
 use Rattle.lova.specs.Join.{joinRules, joinedInstance, joinIn}
 use Rattle.lova.specs.Message.{messageRules, preparedAs, messageIn}
 use Rattle.lova.specs.Verdict.{verdictRulesAs, diagonalsHold, firstHolds, secondHolds, foldedInstance, verdictBy, verdictAs, verdictIn, judged}
+use Rattle.lova.specs.Recompose.{witnessesOf, shortRecomposed, followsRule, recomposeRules, recomposeIn}
 use Rattle.lova.specs.Points.{Point, Says, points, In}
 
 -- a claim about each row of a list
@@ -29,7 +30,7 @@ at P x xs h (In.here) = h .0
 at P x xs h (In.there i) = at P x _ (h .1) i
 
 pub every-point : (p : Point) → In p points → Says p
-unfolding Says build sum sumℕ residue table lower mirrored firstOf greatest LOf repunit settingRefusal stepOf restOf digitOf unlessRefused ternary all every eqZ shortRight diagonalWithin areTernary countsJoin beside above digitWitness gadget commitRules instanceIn commitIn joinRules joinedInstance joinIn messageRules preparedAs messageIn verdictRulesAs diagonalsHold firstHolds secondHolds foldedInstance verdictBy judged verdictIn verdictAs
+unfolding Says build sum sumℕ residue table lower mirrored firstOf greatest LOf repunit settingRefusal stepOf restOf digitOf unlessRefused ternary all every eqZ shortRight diagonalWithin areTernary countsJoin beside above digitWitness gadget commitRules instanceIn commitIn joinRules joinedInstance joinIn messageRules preparedAs messageIn verdictRulesAs diagonalsHold firstHolds secondHolds foldedInstance verdictBy judged verdictIn verdictAs witnessesOf shortRecomposed followsRule recomposeRules recomposeIn
 every-point p i = at Says p points (
   (refl, refl, refl, omega arith),
   (
@@ -46,7 +47,7 @@ every-point p i = at Says p points (
               refl,
               (
                 (λ a x y. refl),
-                ((λ a x y. refl), ((λ a x y. refl), ((λ x y. refl), ((λ x y. refl), ((λ x y. refl), ((λ x y. (refl, refl, refl)), ((λ x y. (refl, refl, refl)), ((λ x y. (refl, refl, refl)), ((λ x y. (refl, refl, refl, refl)), ((λ x y. (refl, refl, refl, refl)), ((λ x y. (refl, refl, refl, refl)), ((λ x y. (refl, refl, refl, refl)), tt)))))))))))),
+                ((λ a x y. refl), ((λ a x y. refl), ((λ x y. refl), ((λ x y. refl), ((λ x y. refl), ((λ x y. (refl, refl, refl)), ((λ x y. (refl, refl, refl)), ((λ x y. (refl, refl, refl)), ((λ x y. (refl, refl, refl, refl)), ((λ x y. (refl, refl, refl, refl)), ((λ x y. (refl, refl, refl, refl)), ((λ x y. (refl, refl, refl, refl)), ((λ x y. refl), ((λ x y. refl), ((λ x y. refl), ((λ x y. refl), ((λ x y. refl), tt))))))))))))))))),
               ),
             ),
           ),

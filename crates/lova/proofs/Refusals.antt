@@ -15,16 +15,17 @@ use Rattle.settings.proofs.Rules.{Numbered, first-applies, none-applies, none-a
 use Rattle.lova.specs.Answers.{afterSetting, Meaning, done, refused, Outcome, ends, unlessRefused}
 use Rattle.lova.specs.declared.Profile.{Profile}
 use Rattle.lova.specs.declared.Profile.the-variants.{General}
-use Rattle.lova.specs.Stored.{Stored, Instance, Counted, Message, Prepared, columnsOf, matrixA, matrixS, rightS, rightT, rightD, sentV, sentS~, sentT~, sentD~, matrixT, matrixD, joinedT, joinedD}
+use Rattle.lova.specs.Stored.{Stored, Instance, Counted, Message, Prepared, Witnesses, columnsOf, matrixA, matrixS, rightS, rightT, rightD, sentV, sentS~, sentT~, sentD~, matrixT, matrixD, joinedT, joinedD}
 use Rattle.lova.specs.Tests.{countsJoin, fits, fitsC, shortRight, areTernary, bounded}
-use Rattle.lova.specs.Calls.{CountsJoin, Decided, CommitLengths, RelationLengths, JoinLengths, MessageLengths, VerdictLengths, WitnessLengths, Fits, FitsInstance, FitsRight, FitsJoined, FitsMessage, FitsPrepared, FitsC, Short, ShortRight, Ternary, Bounded, ProperCommit, ProperRelation, ProperJoin, ProperMessage, ProperVerdict, ProperWitness}
+use Rattle.lova.specs.Recompose.{shortRecomposed, followsRule, recomposeRules}
+use Rattle.lova.specs.Calls.{CountsJoin, Decided, CommitLengths, RelationLengths, JoinLengths, MessageLengths, VerdictLengths, WitnessLengths, RecomposeLengths, Fits, FitsInstance, FitsRight, FitsJoined, FitsMessage, FitsPrepared, FitsC, Short, ShortRight, Ternary, Bounded, ShortRecomposed, FollowsRule, ProperCommit, ProperRelation, ProperJoin, ProperMessage, ProperVerdict, ProperWitness, ProperRecompose}
 use Rattle.lova.specs.Commit.{commitRules}
 use Rattle.lova.specs.Relation.{relationRules}
 use Rattle.lova.specs.Join.{joinRules}
 use Rattle.lova.specs.Message.{messageRules}
 use Rattle.lova.specs.Verdict.{verdictRulesAs, verdictRules}
 use Rattle.lova.specs.Witness.{witnessRules}
-use Rattle.lova.proofs.Tests.{counts-iff, eqb-iff, short-iff, ternary-iff, bounded-iff}
+use Rattle.lova.proofs.Tests.{counts-iff, eqb-iff, short-iff, ternary-iff, bounded-iff, recomposed-iff, rule-iff}
 
 -- ---- of any call, by its rules and by what it ends with where none applies
 
@@ -47,6 +48,12 @@ module _ {X : Type 0} (before : X) (result : Outcome X) where
   unfolding unlessRefused
   refuses-so zero ne = absurd (ne refl)
   refuses-so (suc r) ne = refl
+
+  -- where the call ends with an answer that is no refusal, no rule applies
+  pub none-refused : (r : ℕ) → Ended ((unlessRefused r before result) .answer) → r ≡ 0
+  unfolding unlessRefused
+  none-refused zero end = refl
+  none-refused (suc r) end = absurd (end (suc r) refl)
 
   -- either the call ends with its result or its outputs are what they were
   pub untouched : (r : ℕ) → (unlessRefused r before result ≡ result) ⊎ ((unlessRefused r before result) .outputs ≡ before)
@@ -435,3 +442,57 @@ module _ (p : Parameters) (f : Profile) where
         (λ e. let x = f .0 e in (x .0, open-rule (witnessLens S~ C out) (x .1 .0), open-rule (decTernary p C) (x .1 .1 .0), x .2)),
         (λ h. f .1 (h .0, (shut-rule (witnessLens S~ C out) (h .1), (shut-rule (decTernary p C) (h .2), tt)), h .3)),
       )
+
+  module _ (S~ : List ℤ) (out : Witnesses) where
+    -- recomposition's own tests, in the order of its rules
+    abbrev pub recomposeLens : Decides (RecomposeLengths p f S~ out)
+    recomposeLens = three (decFits p (sentS~ p f) S~) (decFits p (matrixS p) (out .S₁)) (decFits p (rightS p f) (out .S₂))
+
+    abbrev within : Decides (Bounded (p .m) (columnsOf p f) (hOf p) (sentS~ p f .read S~))
+    within = decBounded p (p .m) (columnsOf p f) (hOf p) (sentS~ p f .read S~)
+
+    abbrev columns : Decides (ShortRecomposed p f S~)
+    columns = record { test = shortRecomposed p f S~; says = recomposed-iff p f S~ }
+
+    abbrev rule : Decides (FollowsRule p f S~)
+    rule = record { test = followsRule p f S~; says = rule-iff p f S~ }
+
+    pub recompose-proper : (firstOf (afterSetting p (recomposeRules p f S~ out)) ≡ 0) ↔ ProperRecompose p f S~ out
+    unfolding recomposeRules
+    recompose-proper =
+        let s = of-setting p _ tt in (
+          (λ e. let h = s .0 e in record { setting = h .0; lengths = open-rule recomposeLens (h .1 .0); entries = open-rule within (h .1 .1 .0); columns = open-rule columns (h .1 .1 .1 .0); digits = open-rule rule (h .1 .1 .1 .1 .0) }),
+          (λ c. s .1 (c .setting, (shut-rule recomposeLens (c .lengths), (shut-rule within (c .entries), (shut-rule columns (c .columns), (shut-rule rule (c .digits), tt)))))),
+        )
+
+    pub recompose-7 : (firstOf (afterSetting p (recomposeRules p f S~ out)) ≡ 7) ↔ ((settingRefusal p ≡ 0) × (RecomposeLengths p f S~ out → ⊥))
+    unfolding recomposeRules
+    recompose-7 =
+        let f = own-number p ([]) recomposeLens 7 ((not (within .test) gives 11) ∷ (not (columns .test) gives 8) ∷ (not (rule .test) gives 16) ∷ []) tt tt in (
+          (λ e. let x = f .0 e in (x .0, x .2)),
+          (λ h. f .1 (h .0, tt, h .1)),
+        )
+
+    pub recompose-11 : (firstOf (afterSetting p (recomposeRules p f S~ out)) ≡ 11) ↔ ((settingRefusal p ≡ 0) × RecomposeLengths p f S~ out × (Bounded (p .m) (columnsOf p f) (hOf p) (sentS~ p f .read S~) → ⊥))
+    unfolding recomposeRules
+    recompose-11 =
+        let f = own-number p ((not (recomposeLens .test) gives 7) ∷ []) within 11 ((not (columns .test) gives 8) ∷ (not (rule .test) gives 16) ∷ []) tt tt in (
+          (λ e. let x = f .0 e in (x .0, open-rule recomposeLens (x .1 .0), x .2)),
+          (λ h. f .1 (h .0, (shut-rule recomposeLens (h .1), tt), h .2)),
+        )
+
+    pub recompose-8 : (firstOf (afterSetting p (recomposeRules p f S~ out)) ≡ 8) ↔ ((settingRefusal p ≡ 0) × RecomposeLengths p f S~ out × Bounded (p .m) (columnsOf p f) (hOf p) (sentS~ p f .read S~) × (ShortRecomposed p f S~ → ⊥))
+    unfolding recomposeRules
+    recompose-8 =
+        let f = own-number p ((not (recomposeLens .test) gives 7) ∷ (not (within .test) gives 11) ∷ []) columns 8 ((not (rule .test) gives 16) ∷ []) tt tt in (
+          (λ e. let x = f .0 e in (x .0, open-rule recomposeLens (x .1 .0), open-rule within (x .1 .1 .0), x .2)),
+          (λ h. f .1 (h .0, (shut-rule recomposeLens (h .1), (shut-rule within (h .2), tt)), h .3)),
+        )
+
+    pub recompose-16 : (firstOf (afterSetting p (recomposeRules p f S~ out)) ≡ 16) ↔ ((settingRefusal p ≡ 0) × RecomposeLengths p f S~ out × Bounded (p .m) (columnsOf p f) (hOf p) (sentS~ p f .read S~) × ShortRecomposed p f S~ × (FollowsRule p f S~ → ⊥))
+    unfolding recomposeRules
+    recompose-16 =
+        let f = own-number p ((not (recomposeLens .test) gives 7) ∷ (not (within .test) gives 11) ∷ (not (columns .test) gives 8) ∷ []) rule 16 ([]) tt tt in (
+          (λ e. let x = f .0 e in (x .0, open-rule recomposeLens (x .1 .0), open-rule within (x .1 .1 .0), open-rule columns (x .1 .1 .1 .0), x .2)),
+          (λ h. f .1 (h .0, (shut-rule recomposeLens (h .1), (shut-rule within (h .2), (shut-rule columns (h .3), tt))), h .4)),
+        )

@@ -130,7 +130,7 @@ module _ (p : Parameters) where
   repeated-D~ M = mirrored-lower (NOf p) _ (λ a c ha hc. mirrored-symmetric (M .D~) _ _)
 
   -- every column of a fresh matrix stands somewhere in the repeated one
-  onto : 1 ≤ p .t → (x : ℕ) → x < columnsOf p Fresh → (x < NOf p) × (placeOf (p .t) (kOf p) x ≡ x)
+  pub onto : 1 ≤ p .t → (x : ℕ) → x < columnsOf p Fresh → (x < NOf p) × (placeOf (p .t) (kOf p) x ≡ x)
   onto low x h = ⊎-elim
       (λ (l : p .t * kOf p ≤ x).
       let e : x ≡ p .t * kOf p + (x - p .t * kOf p) = omega arith in
@@ -152,7 +152,7 @@ module _ (p : Parameters) where
     (λ h a c ha hc. rw (repeated-D~ M a c ha hc) (h _ _ (place-bound a) (place-bound c))),
   )
 
-  repeated-S~ : (S~ : List ℤ) → Agree (p .m) (NOf p) (matrixS~ p .read (repeatedS~ p Fresh S~)) (λ i c. sentS~ p Fresh .read S~ i (placeOf (p .t) (kOf p) c))
+  pub repeated-S~ : (S~ : List ℤ) → Agree (p .m) (NOf p) (matrixS~ p .read (repeatedS~ p Fresh S~)) (λ i c. sentS~ p Fresh .read S~ i (placeOf (p .t) (kOf p) c))
   repeated-S~ S~ i c hi hc = entry-table (pos 0) (p .m) (NOf p) _ i c hi hc
 
   pub S~-bounds : 1 ≤ p .t → (h : ℕ) (S~ : List ℤ) → Bounded (p .m) (NOf p) h (matrixS~ p .read (repeatedS~ p Fresh S~)) ↔ Bounded (p .m) (columnsOf p Fresh) h (sentS~ p Fresh .read S~)

@@ -1,11 +1,12 @@
 -- What the tests of the rules and of the verdict say.
-use mathlib.Core.Path.{_≡_, ap}
+use mathlib.Core.Path.{_≡_, refl, sym, ap, subst}
 use mathlib.Core.Logic.{_↔_, _⊎_, inl, inr, ⊎-elim}
 use mathlib.Core.Bool.{Bool, true, false, not, _&&_}
 use mathlib.Core.List.{List}
 use Prim.Native.Nat.{ℕ, zero, suc, _+_, _*_, _/_, _%_, _<_, _≤_}
 use native.Mathlib.Omega.{arith}
 use native.Mathlib.Nat.{eq-or-lt-of-le, le-of-suc-le-suc, div-add-mod', div-lt-iff-lt-mul, mod-lt}
+use native.Mathlib.Numerals.{add-one}
 use lib.Dec.{T, not-T, eqb, leb, leb→le, le→leb, lt→ltb, nleb→lt, eqb→eq, eqb-refl}
 use lib.IntN.{ℤ, pos, negsuc, natAbs}
 use lib.ListN.{length, getD}
@@ -19,9 +20,10 @@ use Rattle.matrices.specs.Triangles.{triangular, mirrored}
 use Rattle.matrices.proofs.Triangles.{mirrored-bounds}
 use Rattle.settings.specs.Settings.{Parameters, NOf}
 use Rattle.lova.specs.declared.Profile.{Profile}
-use Rattle.lova.specs.Stored.{Instance, mostLeaves, rightOf}
+use Rattle.lova.specs.Stored.{Instance, mostLeaves, rightOf, columnsOf}
 use Rattle.lova.specs.Tests.{all, every, eqZ, equal, equalWords, shortRight, diagonalWithin, areTernary, countsJoin, bounded}
-use Rattle.lova.specs.Calls.{ShortRight, DiagonalWithin, DiagonalLong, Ternary, CountsJoin, Bounded}
+use Rattle.lova.specs.Calls.{ShortRight, DiagonalWithin, DiagonalLong, Ternary, CountsJoin, Bounded, ShortRecomposed, FollowsRule}
+use Rattle.lova.specs.Recompose.{shortRecomposed, followsRule}
 use Rattle.lova.specs.Verdict.{Diagonals, diagonalsHold}
 
 -- of two tests one fails
@@ -43,8 +45,23 @@ all-elim (suc n) P h i l = ⊎-elim
     (λ (k : i < n). all-elim n P (and-fst (all n P) (P n) h) i k)
     (eq-or-lt-of-le (le-of-suc-le-suc l))
 
+-- no number yet, and one more, at the code's n + 1
+pub all-none : (P : ℕ → Bool) → all 0 P ≡ true
+unfolding all
+all-none P = refl
+
+pub all-more : (n : ℕ) (P : ℕ → Bool) → all (n + 1) P ≡ (all n P && P n)
+unfolding all
+all-more n P = rw (add-one n) refl
+
+-- tests that agree below n agree as a whole
+pub all-cong : (n : ℕ) (P Q : ℕ → Bool) → ((i : ℕ) → i < n → P i ≡ Q i) → all n P ≡ all n Q
+all-cong n P Q e = same-test (all n P) (all n Q)
+    (λ h. all-true n Q (λ i l. subst T (e i l) (all-elim n P h i l)))
+    (λ h. all-true n P (λ i l. subst T (sym (e i l)) (all-elim n Q h i l)))
+
 -- some number below n fails
-all-fails : (n : ℕ) (P : ℕ → Bool) → T (not (all n P)) → (i : ℕ) × (i < n) × T (not (P i))
+pub all-fails : (n : ℕ) (P : ℕ → Bool) → T (not (all n P)) → (i : ℕ) × (i < n) × T (not (P i))
 unfolding all
 all-fails zero P h = absurd h
 all-fails (suc n) P h = ⊎-elim
@@ -120,6 +137,14 @@ module _ (p : Parameters) where
   pub short-iff : (f : Profile) (S : List ℤ) → T (shortRight p f S) ↔ ShortRight p f S
   unfolding shortRight
   short-iff f S = ((λ h j hj. leb→le _ _ (all-elim (rightOf p f) _ h j hj)), (λ h. all-true (rightOf p f) _ (λ j hj. le→leb _ _ (h j hj))))
+
+  pub recomposed-iff : (f : Profile) (S~ : List ℤ) → T (shortRecomposed p f S~) ↔ ShortRecomposed p f S~
+  unfolding shortRecomposed
+  recomposed-iff f S~ = ((λ h j hj. leb→le _ _ (all-elim (p .t + rightOf p f) _ h j hj)), (λ h. all-true (p .t + rightOf p f) _ (λ j hj. le→leb _ _ (h j hj))))
+
+  pub rule-iff : (f : Profile) (S~ : List ℤ) → T (followsRule p f S~) ↔ FollowsRule p f S~
+  unfolding followsRule
+  rule-iff f S~ = equal-iff (p .m) (columnsOf p f) _ _
 
   diagonal-iff : (D : List ℤ) → T (diagonalWithin p D) ↔ DiagonalWithin p D
   unfolding diagonalWithin

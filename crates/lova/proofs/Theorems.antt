@@ -18,9 +18,9 @@ use Rattle.digits.proofs.Steps.{by-arithmetic, by-carry}
 use Rattle.lova.specs.Answers.{afterSetting, done, «yes», norm, commitment, long, products, member, refused, ends}
 use Rattle.lova.specs.declared.Profile.{Profile}
 use Rattle.lova.specs.declared.Profile.the-variants.{General, Fresh}
-use Rattle.lova.specs.Stored.{Instance, Counted, counted, mostLeaves, Message, Prepared, matrixA, matrixD, matrixS~, columnsOf, sentS~, sentD~}
-use Rattle.lova.specs.Repeats.{repeatedS, repeatedInstance, repeatedCounted, repeatedMessage, repeatedV, repeatedS~, repeatedPrepared, Matrices, meant, expanded}
-use Rattle.lova.specs.Calls.{CommitLengths, RelationLengths, JoinLengths, MessageLengths, VerdictLengths, WitnessLengths, Fits, Short, ShortRight, DiagonalWithin, DiagonalLong, Ternary, CountsJoin, Bounded, Decided, CountsOn, ProperCommit, ProperRelation, ProperJoin, ProperMessage, ProperVerdict, ProperWitness}
+use Rattle.lova.specs.Stored.{Instance, Counted, counted, mostLeaves, Message, Prepared, Witnesses, matrixA, matrixD, matrixS~, columnsOf, sentS~, sentD~}
+use Rattle.lova.specs.Repeats.{repeatedS, repeatedInstance, repeatedCounted, repeatedMessage, repeatedV, repeatedS~, repeatedWitnesses, repeatedPrepared, Matrices, meant, expanded}
+use Rattle.lova.specs.Calls.{CommitLengths, RelationLengths, JoinLengths, MessageLengths, VerdictLengths, WitnessLengths, RecomposeLengths, Fits, FitsPrepared, Short, ShortRight, DiagonalWithin, DiagonalLong, Ternary, CountsJoin, Bounded, ShortRecomposed, FollowsRule, Decided, CountsOn, ProperCommit, ProperRelation, ProperJoin, ProperMessage, ProperVerdict, ProperWitness, ProperRecompose}
 use Rattle.lova.specs.Tests.{short}
 use Rattle.lova.specs.Commit.{commitRules, instanceIn, commitIn}
 use Rattle.lova.specs.Relation.{Related, relationRules, ProductsAgree, CommitmentAgrees, memberWord, productsHold, commitmentHolds, relation}
@@ -29,15 +29,17 @@ use Rattle.lova.specs.Message.{messageRules, preparedIn, messageIn}
 use Rattle.lova.specs.Verdict.{Diagonals, FirstEquation, SecondEquation, verdictRulesAs, verdictRules, foldedInstance, judgedIn, verdictAs, verdictIn}
 use Rattle.lova.specs.Squares.{squareD~, mirroredMessage, mirroredPrepared, squarePreparedIn, squareVerdictIn}
 use Rattle.lova.specs.Witness.{witnessRules, foldedWitness, witnessIn}
+use Rattle.lova.specs.Recompose.{recomposeRules, witnessesOf, recomposeIn}
 use Rattle.lova.specs.Trees.{Tree, leavesOf, Proper, seen, viewOf, Held, HeldFits, Honest}
 use Rattle.lova.proofs.Tests.{long-iff}
 use Rattle.lova.proofs.Refusals as Refusals
-use Rattle.lova.proofs.Refusals.{refused-by, done-ended, decides, commit-proper, relation-proper, join-proper, message-proper, verdict-proper, witness-proper}
+use Rattle.lova.proofs.Refusals.{refused-by, done-ended, decides, commit-proper, relation-proper, join-proper, message-proper, verdict-proper, witness-proper, recompose-proper}
 use Rattle.lova.proofs.Exact as Exact
 use Rattle.lova.proofs.FreshOutcomes as FreshOutcomes
 use Rattle.lova.proofs.Mirrored as Mirrored
 use Rattle.lova.proofs.Mirrored.{meant-symmetric, first-symmetric}
 use Rattle.lova.proofs.Honest.{honest, lent}
+use Rattle.lova.proofs.Undone as Undone
 
 via : {A B C : Type 0} → A ↔ B → B ↔ C → A ↔ C
 via f g = ((λ x. g .0 (f .0 x)), (λ x. f .1 (g .1 x)))
@@ -71,6 +73,11 @@ module _ (p : Parameters) (f : Profile) where
       → Decided (witnessIn p f S~ C out) out (ends done (foldedWitness p (matrixS~ p .read (repeatedS~ p f S~)) C)) (afterSetting p (witnessRules p f S~ C out)) (ProperWitness p f S~ C out)
   unfolding witnessIn witnessRules
   witness-decided S~ C out = decides out _ _ _ tt done-ended (witness-proper p f S~ C out)
+
+  pub recompose-decided : (S~ : List ℤ) (out : Witnesses)
+      → Decided (recomposeIn p f S~ out) out (ends done (witnessesOf p f S~)) (afterSetting p (recomposeRules p f S~ out)) (ProperRecompose p f S~ out)
+  unfolding recomposeIn recomposeRules
+  recompose-decided S~ out = decides out _ _ _ tt done-ended (recompose-proper p f S~ out)
 
   -- ---- demand 1: each number of an operation's own, in the order of document 01. A refused setting gives its own number before these
 
@@ -125,6 +132,22 @@ module _ (p : Parameters) (f : Profile) where
   pub witness-11 : (S~ : List ℤ) (C : List ℕ) (out : List ℤ) → ((witnessIn p f S~ C out) .answer ≡ refused 11) ↔ ((settingRefusal p ≡ 0) × WitnessLengths p f S~ C out × Ternary p C × (Bounded (p .m) (columnsOf p f) (hOf p) (sentS~ p f .read S~) → ⊥))
   unfolding witnessIn
   witness-11 S~ C out = via (refused-by out _ done-ended _ 11 (λ z. omega arith)) (Refusals.witness-11 p f S~ C out)
+
+  pub recompose-7 : (S~ : List ℤ) (out : Witnesses) → ((recomposeIn p f S~ out) .answer ≡ refused 7) ↔ ((settingRefusal p ≡ 0) × (RecomposeLengths p f S~ out → ⊥))
+  unfolding recomposeIn
+  recompose-7 S~ out = via (refused-by out _ done-ended _ 7 (λ z. omega arith)) (Refusals.recompose-7 p f S~ out)
+
+  pub recompose-11 : (S~ : List ℤ) (out : Witnesses) → ((recomposeIn p f S~ out) .answer ≡ refused 11) ↔ ((settingRefusal p ≡ 0) × RecomposeLengths p f S~ out × (Bounded (p .m) (columnsOf p f) (hOf p) (sentS~ p f .read S~) → ⊥))
+  unfolding recomposeIn
+  recompose-11 S~ out = via (refused-by out _ done-ended _ 11 (λ z. omega arith)) (Refusals.recompose-11 p f S~ out)
+
+  pub recompose-8 : (S~ : List ℤ) (out : Witnesses) → ((recomposeIn p f S~ out) .answer ≡ refused 8) ↔ ((settingRefusal p ≡ 0) × RecomposeLengths p f S~ out × Bounded (p .m) (columnsOf p f) (hOf p) (sentS~ p f .read S~) × (ShortRecomposed p f S~ → ⊥))
+  unfolding recomposeIn
+  recompose-8 S~ out = via (refused-by out _ done-ended _ 8 (λ z. omega arith)) (Refusals.recompose-8 p f S~ out)
+
+  pub recompose-16 : (S~ : List ℤ) (out : Witnesses) → ((recomposeIn p f S~ out) .answer ≡ refused 16) ↔ ((settingRefusal p ≡ 0) × RecomposeLengths p f S~ out × Bounded (p .m) (columnsOf p f) (hOf p) (sentS~ p f .read S~) × ShortRecomposed p f S~ × (FollowsRule p f S~ → ⊥))
+  unfolding recomposeIn
+  recompose-16 S~ out = via (refused-by out _ done-ended _ 16 (λ z. omega arith)) (Refusals.recompose-16 p f S~ out)
 
   -- ---- demand 2: the verdict on a message from anyone, for a proper call
 
@@ -205,6 +228,10 @@ module _ (p : Parameters) where
       → witnessIn p Fresh S~ C out ≡ witnessIn p General (repeatedS~ p Fresh S~) C out
   witness-repeats S~ C out lengths = FreshOutcomes.witness-repeats p S~ C out lengths
 
+  pub recompose-repeats : (S~ : List ℤ) (out : Witnesses) → RecomposeLengths p Fresh S~ out
+      → expanded (repeatedWitnesses p Fresh) (recomposeIn p Fresh S~ out) ≡ recomposeIn p General (repeatedS~ p Fresh S~) (repeatedWitnesses p Fresh out)
+  recompose-repeats S~ out lengths = FreshOutcomes.recompose-repeats p S~ out lengths
+
 -- ---- request 3: D~ as a lower triangle is equal to the square form
 
 module _ (p : Parameters) (f : Profile) where
@@ -249,6 +276,28 @@ module _ (p : Parameters) (ok : settingRefusal p ≡ 0) where
   pub step-by-arithmetic : (w : ℕ)
       → stepOf (p .b) w ≡ record { digit = pos (w % p .b) -ℤ pos (p .b * carryOf (p .b) (w % p .b)); rest = w / p .b + carryOf (p .b) (w % p .b) }
   step-by-arithmetic w = by-carry (p .b) w (accepted p ok .b-low)
+
+-- ---- request 6: recomposition succeeds exactly on digit witnesses that the message operation can produce, and undoes it
+
+module _ (p : Parameters) (f : Profile) where
+  -- it is done if and only if S~ is what message gives for some S1 and S2 (or v), which message takes only within B; whatever A is
+  pub recompose-exactly : (A : List ℕ) (S~ : List ℤ) (out : Witnesses) (before : Prepared)
+      → RecomposeLengths p f S~ out → Fits (matrixA p) A → FitsPrepared p f before
+      → ((recomposeIn p f S~ out) .answer ≡ done)
+      ↔ ((S₁ : List ℤ) × (S₂ : List ℤ) × ((messageIn p f A S₁ S₂ before) .answer ≡ done) × ((messageIn p f A S₁ S₂ before) .outputs .S~ ≡ S~))
+  recompose-exactly A S~ out before lengths sizeA fits = Undone.exactly p f A S~ out before lengths sizeA fits
+
+  -- of what message gives for S1 and S2 (or v) it gives these back
+  pub recompose-undoes : (A : List ℕ) (S₁ S₂ : List ℤ) (before : Prepared) (out : Witnesses)
+      → ProperMessage p f A S₁ S₂ before → RecomposeLengths p f ((messageIn p f A S₁ S₂ before) .outputs .S~) out
+      → recomposeIn p f ((messageIn p f A S₁ S₂ before) .outputs .S~) out ≡ ends done (record { S₁ = S₁; S₂ = S₂ })
+  recompose-undoes A S₁ S₂ before out proper lengths = Undone.undoes p f A S₁ S₂ before out proper lengths
+
+  -- and of what it gives for S~, message gives S~ again
+  pub recompose-returns : (A : List ℕ) (S~ : List ℤ) (out : Witnesses) (before : Prepared)
+      → ProperRecompose p f S~ out → Fits (matrixA p) A → FitsPrepared p f before
+      → (messageIn p f A (witnessesOf p f S~ .S₁) (witnessesOf p f S~ .S₂) before) .outputs .S~ ≡ S~
+  recompose-returns A S~ out before proper sizeA fits = Undone.returns p f A S~ out before sizeA fits proper
 
 -- ---- the relation test and the trees
 

@@ -6,15 +6,17 @@ use Prim.Native.Nat.{ℕ, _+_, _<_, _≤_}
 use lib.IntN.{ℤ, pos, natAbs}
 use lib.ListN.{length}
 use lib.Signed.{_≤ℤ_, _<ℤ_}
-use Rattle.matrices.specs.Matrices.{Matrix, squaredLength}
+use Rattle.matrices.specs.Matrices.{Matrix, squaredLength, Agree}
 use Rattle.matrices.specs.Tables.{entry}
 use Rattle.settings.specs.Rules.{Rule, First}
 use Rattle.settings.specs.Settings.{Parameters, NOf, hOf, HOf, settingRefusal, settingOf, parametersOf}
 use Rattle.settings.specs.declared.Setting.{Setting}
 use Rattle.lova.specs.Answers.{Meaning, refused, Outcome, ends}
-use Rattle.lova.specs.Stored.{Stored, Instance, Counted, mostLeaves, Message, Prepared, rightOf, columnsOf, matrixA, matrixT, matrixS, matrixD, rightS, rightT, rightD, sentV, sentS~, sentT~, sentD~, joinedT, joinedD, sizeC}
+use Rattle.lova.specs.Stored.{Stored, Instance, Counted, mostLeaves, Message, Prepared, Witnesses, rightOf, columnsOf, matrixA, matrixT, matrixS, matrixD, rightS, rightT, rightD, sentV, sentS~, sentT~, sentD~, joinedT, joinedD, sizeC}
 use Rattle.lova.specs.declared.Profile.{Profile}
 use Rattle.lova.specs.declared.Profile.the-variants.{General}
+use Rattle.lova.specs.Fold.{digitWitness}
+use Rattle.lova.specs.Recompose.{recomposed}
 
 -- a slice has the length of the matrix that it stands for
 abbrev pub Fits : {E : Type 0} → Stored E → List E → Type 0
@@ -65,6 +67,14 @@ CountsJoin a b = (1 ≤ a) × (1 ≤ b) × (a + b ≤ mostLeaves)
 abbrev pub Bounded : ℕ → ℕ → ℕ → Matrix → Type 0
 Bounded rows cols M X = (i j : ℕ) → i < rows → j < cols → natAbs (X i j) ≤ M
 
+-- each column of S~ G, what S~ stands for, has a squared length of at most B
+abbrev pub ShortRecomposed : Parameters → Profile → List ℤ → Type 0
+ShortRecomposed p f S~ = (j : ℕ) → j < p .t + rightOf p f → squaredLength (p .m) (recomposed p f S~) j ≤ p .bound
+
+-- the digits of S~ are those that the digit rule gives for it
+abbrev pub FollowsRule : Parameters → Profile → List ℤ → Type 0
+FollowsRule p f S~ = Agree (p .m) (columnsOf p f) (digitWitness p (recomposed p f S~)) (sentS~ p f .read S~)
+
 -- the stated lengths of each operation's slices, outputs included
 abbrev pub RelationLengths : Parameters → List ℕ → Instance → List ℤ → Type 0
 RelationLengths p A I S = Fits (matrixA p) A × FitsInstance p I × Fits (matrixS p) S
@@ -84,6 +94,9 @@ module _ (p : Parameters) (f : Profile) where
 
   abbrev pub WitnessLengths : List ℤ → List ℕ → List ℤ → Type 0
   WitnessLengths S~ C out = Fits (sentS~ p f) S~ × FitsC p C × Fits (matrixS p) out
+
+  abbrev pub RecomposeLengths : List ℤ → Witnesses → Type 0
+  RecomposeLengths S~ out = Fits (sentS~ p f) S~ × Fits (matrixS p) (out .S₁) × Fits (rightS p f) (out .S₂)
 
 -- proper calls
 pub record ProperRelation (p : Parameters) (A : List ℕ) (I : Instance) (S : List ℤ) : Type 0 where
@@ -118,6 +131,13 @@ module _ (p : Parameters) (f : Profile) where
     pub lengths : WitnessLengths p f S~ C out
     pub bytes : Ternary p C
     pub entries : Bounded (p .m) (columnsOf p f) (hOf p) (sentS~ p f .read S~)
+
+  pub record ProperRecompose (S~ : List ℤ) (out : Witnesses) : Type 0 where
+    pub setting : settingRefusal p ≡ 0
+    pub lengths : RecomposeLengths p f S~ out
+    pub entries : Bounded (p .m) (columnsOf p f) (hOf p) (sentS~ p f .read S~)
+    pub columns : ShortRecomposed p f S~
+    pub digits : FollowsRule p f S~
 
 -- demand 1, of a call with these rules that is proper where P holds: a proper call ends with its whole answer; every other call
 -- is refused with the first number that applies to it, and its outputs keep what they held (a leaf count is 0 then)

@@ -4,7 +4,7 @@ use Prim.Native.Nat.{ℕ}
 use lib.IntN.{ℤ}
 use denote.Ref.{RefT}
 use denote.Triple.Both.{Both}
-use Rattle.lova.specs.Stored.{Instance, Message, Prepared}
+use Rattle.lova.specs.Stored.{Instance, Message, Prepared, Witnesses}
 
 -- a lent slice as a contract names it: with what it holds at entry and at exit
 abbrev pub LentSlice : Type 0 → Type 0
@@ -30,3 +30,10 @@ preparedBefore v tt dd ss = record { message = messageBefore v tt dd; S~ = ss .e
 
 abbrev pub preparedAfter : LentSlice ℤ → LentSlice ℕ → LentSlice ℤ → LentSlice ℤ → Prepared
 preparedAfter v tt dd ss = record { message = messageAfter v tt dd; S~ = ss .exit .now }
+
+-- what recomposition writes, in two: S1, and S2 or v
+abbrev pub witnessesBefore : LentSlice ℤ → LentSlice ℤ → Witnesses
+witnessesBefore s₁ s₂ = record { S₁ = s₁ .entry .now; S₂ = s₂ .entry .now }
+
+abbrev pub witnessesAfter : LentSlice ℤ → LentSlice ℤ → Witnesses
+witnessesAfter s₁ s₂ = record { S₁ = s₁ .exit .now; S₂ = s₂ .exit .now }

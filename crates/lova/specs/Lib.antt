@@ -11,6 +11,7 @@ pub mod Join
 pub mod Message
 pub mod Verdict
 pub mod Witness
+pub mod Recompose
 pub mod Squares
 pub mod Trees
 pub mod Points

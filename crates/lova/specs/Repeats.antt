@@ -10,7 +10,7 @@ use Rattle.settings.specs.Settings.{Parameters, kOf, NOf}
 use Rattle.lova.specs.declared.Profile.{Profile}
 use Rattle.lova.specs.declared.Profile.the-variants.{General, Fresh}
 use Rattle.lova.specs.Answers.{Outcome, ends}
-use Rattle.lova.specs.Stored.{Stored, Instance, Counted, counted, Message, Prepared, rightOf, copiesFor, columnsOf, matrixV, matrixT~, matrixD~, sentV, sentT~, sentD~, readC}
+use Rattle.lova.specs.Stored.{Stored, Instance, Counted, counted, Message, Prepared, Witnesses, rightOf, copiesFor, columnsOf, matrixV, matrixT~, matrixD~, sentV, sentT~, sentD~, readC}
 
 -- the column of a fresh S~, T~ or D~ that stands in column c of the general one: the k columns of v's digits stand there t times
 unfoldable pub placeOf : ℕ → ℕ → ℕ → ℕ
@@ -54,6 +54,9 @@ module _ (p : Parameters) where
   abbrev pub repeatedS~ : Profile → List ℤ → List ℤ
   repeatedS~ General S~ = S~
   repeatedS~ Fresh S~ = table (p .m) (NOf p) (λ i c. entry (pos 0) (columnsOf p Fresh) S~ i (placeOf (p .t) (kOf p) c))
+
+  abbrev pub repeatedWitnesses : Profile → Witnesses → Witnesses
+  repeatedWitnesses f o = record { S₁ = o .S₁; S₂ = repeatedS f (o .S₂) }
 
   abbrev pub repeatedPrepared : Profile → Prepared → Prepared
   repeatedPrepared f o = record { message = repeatedMessage f (o .message); S~ = repeatedS~ f (o .S~) }

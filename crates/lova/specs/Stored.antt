@@ -99,6 +99,11 @@ pub record Prepared : Type 0 where
   pub message : Message
   pub S~ : List ℤ
 
+-- two witnesses: S1, and S2 or v
+pub record Witnesses : Type 0 where
+  pub S₁ : List ℤ
+  pub S₂ : List ℤ
+
 -- ---- profiles: the second witness has t columns, or it is one vector v that stands for t equal columns
 
 -- the columns of the second witness, where the first has t

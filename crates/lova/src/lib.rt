@@ -1,8 +1,8 @@
-// The answers of the six operations of a fold, and their profiles.
+// The answers of the operations of a fold, and their profiles.
 ghost use mathlib.Core.Path.{_≡_};
 ghost use Rattle.lova.specs.Stored.{rightFor, copiesFor};
 
-// Of message and folded witness.
+// Of message, folded witness and recomposition.
 pub enum Answer {
     Done,
     Refused(u8),

@@ -5,6 +5,7 @@ ghost use lib.Dec.{leb};
 ghost use lib.IntN.{pos, natAbs, _+ℤ_, _*ℤ_};
 ghost use lib.ListN.{length};
 ghost use Rattle.integers.specs.Residues.{word};
+ghost use Rattle.matrices.specs.Lengths.{lessSquare};
 ghost use Rattle.matrices.specs.Matrices.{squaredLength};
 ghost use Rattle.matrices.specs.Tables.{signed};
 
@@ -30,8 +31,39 @@ pub fn add_signed_product(sum: u64, x: u64, y: i64) -> u64
     add_word_product(sum, x, integers::residue(y))
 }
 
+// What is left of a bound, and whether what was taken last was within it.
+pub struct Left {
+    pub within: bool,
+    pub rest: u64,
+}
+
+// What the square of x leaves of `left`, nothing where it is above. A size of 2^32 or more is above by itself, so
+// nothing wraps.
+pub fn take_square(left: u64, x: i64) -> Left
+    ensures { λ r. ⌜ r ≡ lessSquare left x ⌝ }
+{
+    let w = integers::size(x);
+    if 4294967295 < w {
+        return Left {
+            within: false,
+            rest: 0,
+        };
+    }
+    let square = w * w;
+    if left < square {
+        return Left {
+            within: false,
+            rest: 0,
+        };
+    }
+    Left {
+        within: true,
+        rest: left - square,
+    }
+}
+
 // Whether column j of s has a squared length of at most `bound`, for all signed words: what is left of the bound
-// only falls, and a size of 2^32 or more is too long by itself, so nothing wraps.
+// only falls.
 pub fn column_within(s: &[i64], rows: usize, cols: usize, j: usize, bound: u64) -> bool
     requires { ⌜ (length (now s) ≡ rows * cols) × (j < cols) ⌝ }
     ensures { λ r. ⌜ r ≡ leb (squaredLength rows (signed cols (now (s .entry))) j) bound ⌝ }
@@ -39,15 +71,11 @@ pub fn column_within(s: &[i64], rows: usize, cols: usize, j: usize, bound: u64) 
     let mut left = bound;
     let mut k: usize = 0;
     while k < rows {
-        let w = integers::size(s[k * cols + j]);
-        if 4294967295 < w {
+        let next = take_square(left, s[k * cols + j]);
+        if !next.within {
             return false;
         }
-        let square = w * w;
-        if left < square {
-            return false;
-        }
-        left -= square;
+        left = next.rest;
         k += 1;
     }
     true
