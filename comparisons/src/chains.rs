@@ -1,17 +1,10 @@
-//! Random and damaged chain files, and the chain program fed with them through a pipe.
+//! Random and damaged chain files.
 
 use crate::inputs::{challenge, long_witness, witness, words};
 use crate::seed::{below, once_in, pick};
 use crate::settings::{accepted, accepted_where, bordering_evenly, CHAIN, FULL};
 use reference::rng::Rng;
 use reference::settings::{refusal, Parameters};
-use std::io::ErrorKind::{BrokenPipe, ConnectionRefused, ConnectionReset, NotConnected};
-use std::io::{self, Write};
-use std::os::fd::OwnedFd;
-use std::os::unix::net::UnixDatagram;
-use std::path::Path;
-use std::process::{Command, Output, Stdio};
-use std::thread;
 
 /// Numerals that are bad in every record or in some, and good ones at the ends of the types.
 const NUMERALS: [&str; 20] = [
@@ -20,12 +13,12 @@ const NUMERALS: [&str; 20] = [
     "-9223372036854775808", "-9223372036854775809",
 ];
 
-/// A random setting that the chain program takes.
+/// A random setting that the programs take.
 pub fn setting(rng: &mut Rng) -> Parameters {
     accepted_where(rng, CHAIN, |p| p.k() <= 8)
 }
 
-/// An accepted setting that is past one limit of the chain program alone, by one.
+/// An accepted setting that is past one limit of the programs alone, by one.
 fn just_too_large(rng: &mut Rng) -> Parameters {
     loop {
         let mut p = setting(rng);
@@ -43,13 +36,13 @@ fn just_too_large(rng: &mut Rng) -> Parameters {
 }
 
 /// A line of a word and numbers, with its line feed.
-fn line<T: ToString>(word: &str, numbers: &[T]) -> Vec<u8> {
+pub(crate) fn line<T: ToString>(word: &str, numbers: &[T]) -> Vec<u8> {
     let fields: Vec<String> = numbers.iter().map(T::to_string).collect();
     format!("{word}\t{}\n", fields.join("\t")).into_bytes()
 }
 
 /// The line of a setting.
-fn param(p: &Parameters) -> Vec<u8> {
+pub(crate) fn param(p: &Parameters) -> Vec<u8> {
     line("param", &[p.n, p.m, p.t, p.b, p.bound])
 }
 
@@ -68,7 +61,7 @@ pub fn chain(rng: &mut Rng, p: &Parameters, folds: usize) -> Vec<Vec<u8>> {
 }
 
 /// Replace, take out or put in a byte.
-fn damage_byte(rng: &mut Rng, line: &mut Vec<u8>) {
+pub(crate) fn damage_byte(rng: &mut Rng, line: &mut Vec<u8>) {
     let at = below(rng, line.len());
     let byte = if once_in(rng, 3) { rng.word() as u8 } else { pick(rng, b"\t\n-019 alc\r\0") };
     match rng.word() % 3 {
@@ -79,7 +72,7 @@ fn damage_byte(rng: &mut Rng, line: &mut Vec<u8>) {
 }
 
 /// Replace a digit by any digit; the line often stays good and says something else.
-fn damage_digit(rng: &mut Rng, line: &mut [u8]) {
+pub(crate) fn damage_digit(rng: &mut Rng, line: &mut [u8]) {
     let digits: Vec<&mut u8> = line.iter_mut().filter(|byte| byte.is_ascii_digit()).collect();
     let place = below(rng, digits.len().max(1));
     if let Some(digit) = digits.into_iter().nth(place) {
@@ -88,21 +81,21 @@ fn damage_digit(rng: &mut Rng, line: &mut [u8]) {
 }
 
 /// Replace a field, the word included, take one out or put one in.
-fn damage_field(rng: &mut Rng, line: &mut Vec<u8>) {
+pub(crate) fn damage_field(rng: &mut Rng, line: &mut Vec<u8>) {
     let text = String::from_utf8_lossy(line).trim_end_matches('\n').to_string();
     let mut fields: Vec<&str> = text.split('\t').collect();
     let at = below(rng, fields.len());
     match rng.word() % 6 {
         0 => drop(fields.remove(at)),
         1 => fields.insert(at, pick(rng, &NUMERALS)),
-        2 => fields[0] = pick(rng, &["param", "a", "leaf", "c", "Leaf", "leafs", ""]),
+        2 => fields[0] = pick(rng, &["param", "a", "leaf", "c", "load", "Leaf", "leafs", ""]),
         _ => fields[at] = pick(rng, &NUMERALS),
     }
     *line = format!("{}\n", fields.join("\t")).into_bytes();
 }
 
 /// Bring a line to a length at the limit of 4096 bytes, or past it, with zeros or further fields.
-fn stretch(rng: &mut Rng, line: &mut Vec<u8>) {
+pub(crate) fn stretch(rng: &mut Rng, line: &mut Vec<u8>) {
     let length = pick(rng, &[4095, 4096, 4097, 5000, 10000, 70000]);
     let filler = pick(rng, &[&b"0"[..], b"\t1", b"x"]);
     line.pop();
@@ -117,7 +110,7 @@ fn stretch(rng: &mut Rng, line: &mut Vec<u8>) {
 const STRAY: [&[u8]; 7] = [b"\n", b"\t\n", b" \n", b"\r\n", b"leaf\n", b"end\n", b"# c\n"];
 
 /// Take out a line, double one, put in a stray one at any place or swap two.
-fn disorder(rng: &mut Rng, lines: &mut Vec<Vec<u8>>) {
+pub(crate) fn disorder(rng: &mut Rng, lines: &mut Vec<Vec<u8>>) {
     let (one, two) = (below(rng, lines.len()), below(rng, lines.len()));
     match rng.word() % 4 {
         0 => drop(lines.remove(one)),
@@ -128,7 +121,7 @@ fn disorder(rng: &mut Rng, lines: &mut Vec<Vec<u8>>) {
 }
 
 /// Replace the first line by a setting at some border, or by an accepted one of any size.
-fn damage_setting(rng: &mut Rng, lines: &mut [Vec<u8>]) {
+pub(crate) fn damage_setting(rng: &mut Rng, lines: &mut [Vec<u8>]) {
     lines[0] = match rng.word() % 4 {
         0 => param(&accepted(rng, FULL)),
         1 => param(&just_too_large(rng)),
@@ -163,48 +156,4 @@ pub fn any(rng: &mut Rng) -> Vec<u8> {
         input.truncate(below(rng, input.len() + 1));
     }
     input
-}
-
-/// Send the input in pieces of random sizes; a program that has stopped reading is no fault.
-fn send_pieces(rng: &mut Rng, mut input: &[u8], mut send: impl FnMut(&[u8]) -> io::Result<()>) -> io::Result<()> {
-    let sizes = if input.len() < 3000 { [1, 16, 300] } else { [60, 5000, 20000] };
-    let greatest = pick(rng, &sizes);
-    while !input.is_empty() {
-        let (piece, rest) = input.split_at(input.len().min(1 + below(rng, greatest)));
-        match send(piece).map_err(|error| error.kind()) {
-            Err(BrokenPipe | ConnectionRefused | ConnectionReset | NotConnected) => return Ok(()),
-            other => other?,
-        }
-        input = rest;
-    }
-    Ok(())
-}
-
-/// Run the program, which reads from this, and write to the other end meanwhile; what it wrote.
-fn run(program: &Path, input: Stdio, write: impl FnOnce() -> io::Result<()> + Send) -> io::Result<Output> {
-    let child = Command::new(program).stdin(input).stdout(Stdio::piped()).stderr(Stdio::piped()).spawn()?;
-    thread::scope(|scope| {
-        let writer = scope.spawn(write);
-        let output = child.wait_with_output();
-        writer.join().expect("the writer does not panic")?;
-        output
-    })
-}
-
-/// What the program writes when it is fed through a pipe, in writes of random sizes; one read may take several.
-pub fn feed_by_pipe(program: &Path, input: &[u8], rng: &mut Rng) -> io::Result<Output> {
-    let (reader, mut writer) = io::pipe()?;
-    run(program, reader.into(), move || send_pieces(rng, input, |piece| writer.write_all(piece)))
-}
-
-/// What the program writes when each of its reads takes one piece of random size, however fast it
-/// reads: a socket of datagrams keeps the cuts, and an empty one is the end of the input.
-pub fn feed_by_pieces(program: &Path, input: &[u8], rng: &mut Rng) -> io::Result<Output> {
-    let (reader, writer) = UnixDatagram::pair()?;
-    run(program, OwnedFd::from(reader).into(), move || {
-        send_pieces(rng, input, |piece| writer.send(piece).map(drop))?;
-        // Nobody may be there any more.
-        let _ = writer.send(&[]);
-        Ok(())
-    })
 }

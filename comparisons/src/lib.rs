@@ -1,5 +1,5 @@
-//! What the comparisons share: seeds, counts, random settings and matrices, and calls that are
-//! made both by the static library and by the reference.
+//! What the comparisons share: seeds, counts, random settings, matrices and inputs of the programs, and
+//! calls that are made both by the static library and by the reference.
 #![deny(unsafe_code)]
 #![allow(clippy::too_many_arguments)]
 
@@ -12,6 +12,8 @@ pub mod inputs;
 #[cfg(feature = "library")]
 #[allow(unsafe_code)]
 pub mod library;
+pub mod loads;
+pub mod programs;
 #[cfg(feature = "library")]
 pub mod recompositions;
 #[cfg(feature = "library")]

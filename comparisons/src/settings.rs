@@ -15,7 +15,7 @@ pub struct Limits {
 /// The limits of a setting.
 pub const FULL: Limits = Limits { n: GREATEST_N, m: GREATEST_M, t: GREATEST_T };
 
-/// The limits of the chain program.
+/// The limits of the programs.
 pub const CHAIN: Limits = Limits { n: 8, m: 16, t: 2 };
 
 /// Large settings, each at some limit: N = 512, m = 4096, the most rows and columns, the greatest b, the greatest k.

@@ -16,7 +16,7 @@ fn batch(call: &mut dyn FnMut(), count: usize) -> f64 {
 }
 
 /// The median of some times.
-fn median(mut times: Vec<f64>) -> f64 {
+pub fn median(mut times: Vec<f64>) -> f64 {
     times.sort_by(f64::total_cmp);
     times[times.len() / 2]
 }

@@ -1,11 +1,9 @@
 //! The chain program `foldchain`.
 
 use crate::operations::{relation, Profile};
-use crate::settings::{refusal, Parameters};
+use crate::records::*;
+use crate::settings::Parameters;
 use crate::tree::{fold, leaf, Node};
-
-/// Longest line, line feed included.
-pub const LONGEST_LINE: usize = 4096;
 
 /// The record that is due; at `Leaf` the input may end as well.
 #[derive(Clone, Copy, Default, PartialEq)]
@@ -33,15 +31,6 @@ struct Run {
     output: Vec<u8>,
 }
 
-/// An unsigned number: decimal digits without a leading zero, within 64 bits.
-fn unsigned(field: &[u8]) -> Option<u64> {
-    if field.is_empty() || !field.iter().all(u8::is_ascii_digit) || (field[0] == b'0' && field.len() > 1) {
-        return None;
-    }
-    let step = |value: u64, digit: &u8| value.checked_mul(10)?.checked_add((digit - b'0') as u64);
-    field.iter().try_fold(0u64, step)
-}
-
 /// A signed number: an unsigned one or, other than zero, one after a minus, within 64 bits.
 fn signed(field: &[u8]) -> Option<i64> {
     match field.strip_prefix(b"-") {
@@ -60,55 +49,32 @@ fn challenge_byte(field: &[u8]) -> Option<u8> {
     }
 }
 
-/// The numbers of a record: as many fields as stated, each read by the given rule, else 13.
-fn numbers<T>(fields: &[&[u8]], count: u64, read: fn(&[u8]) -> Option<T>) -> Result<Vec<T>, u32> {
-    if fields.len() as u64 != count {
-        return Err(13);
-    }
-    fields.iter().map(|field| read(field)).collect::<Option<Vec<T>>>().ok_or(13)
-}
-
-/// The fields of an output line as text.
-fn texts<T: ToString>(entries: &[T]) -> Vec<String> {
-    entries.iter().map(T::to_string).collect()
-}
-
 /// The fields of an instance: T, D and the number of leaves under it.
 fn instance_texts(node: &Node) -> Vec<String> {
     [texts(&node.t), texts(&node.d), texts(&[node.leaves])].concat()
 }
 
 impl Run {
-    /// Print one line: fields parted by tabs, ended by a line feed.
+    /// Print one line.
     fn print(&mut self, fields: &[String]) {
-        self.output.extend_from_slice(fields.join("\t").as_bytes());
-        self.output.push(b'\n');
+        self.output.extend(line(fields));
     }
 
     /// Take one line without its line feed, or give the refusal.
     fn line(&mut self, line: &[u8]) -> Result<(), u32> {
-        let fields: Vec<&[u8]> = line.split(|byte| *byte == b'\t').collect();
-        let (word, fields) = (fields[0], &fields[1..]);
+        let (word, fields) = word_and_fields(line);
         match (self.due, word) {
-            (Due::Param, b"param") => self.param(fields),
-            (Due::A, b"a") => self.matrix(fields),
-            (Due::FirstLeaf, b"leaf") | (Due::Leaf, b"leaf") => self.leaf(fields),
-            (Due::C, b"c") => self.challenge(fields),
+            (Due::Param, b"param") => self.param(&fields),
+            (Due::A, b"a") => self.matrix(&fields),
+            (Due::FirstLeaf, b"leaf") | (Due::Leaf, b"leaf") => self.leaf(&fields),
+            (Due::C, b"c") => self.challenge(&fields),
             _ => Err(13),
         }
     }
 
     /// Take the setting: 13, then 1 to 6, then 14.
     fn param(&mut self, fields: &[&[u8]]) -> Result<(), u32> {
-        let five = numbers(fields, 5, unsigned)?;
-        let p = Parameters { n: five[0], m: five[1], t: five[2], b: five[3], bound: five[4] };
-        if refusal(&p) != 0 {
-            return Err(refusal(&p));
-        }
-        if p.n > 8 || p.m > 16 || p.t > 2 || p.k() > 8 {
-            return Err(14);
-        }
-        self.p = p;
+        self.p = setting_of(fields)?;
         self.due = Due::A;
         Ok(())
     }
@@ -165,19 +131,15 @@ impl Run {
 /// The output of a run from this state on an input.
 fn output(mut run: Run, input: &[u8]) -> Vec<u8> {
     let mut number = 0u64;
-    for line in input.split_inclusive(|byte| *byte == b'\n') {
+    for line in lines(input) {
         number += 1;
-        let outcome = match line.strip_suffix(b"\n") {
-            Some(text) if line.len() <= LONGEST_LINE => run.line(text),
-            _ => Err(13),
-        };
-        if let Err(refused) = outcome {
-            run.print(&["refused".to_string(), number.to_string(), refused.to_string()]);
+        if let Err(refusal) = line.and_then(|text| run.line(text)) {
+            run.output.extend(refused(number, refusal));
             return run.output;
         }
     }
-    if let Err(refused) = run.end() {
-        run.print(&["refused".to_string(), (number + 1).to_string(), refused.to_string()]);
+    if let Err(refusal) = run.end() {
+        run.output.extend(refused(number + 1, refusal));
     }
     run.output
 }

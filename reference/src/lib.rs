@@ -6,8 +6,12 @@
 pub mod chain;
 pub mod chain_files;
 pub mod digits;
+pub mod load;
+pub mod load_files;
 pub mod matrices;
 pub mod operations;
+mod records;
 pub mod rng;
 pub mod settings;
+pub mod stored;
 pub mod tree;

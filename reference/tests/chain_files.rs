@@ -1,7 +1,10 @@
 //! The stored chain files.
 
+mod common;
+use common::*;
 use reference::chain::run;
-use reference::chain_files::{all, args, stdout, subjects, ChainFile};
+use reference::chain_files::{all, subjects};
+use reference::stored::{args, stdout, StoredFile};
 
 // What the small chain prints, worked out by hand; 2^64 − 12, − 15 and − 1 stand in full.
 const L1: &str = "leaf\t1\t18446744073709551604\t48\t72\t1\n";
@@ -60,18 +63,8 @@ const BY_HAND: [(&str, &[&str]); 36] = [
 ];
 
 /// The output of a file as text.
-fn output(file: &ChainFile) -> String {
+fn output(file: &StoredFile) -> String {
     String::from_utf8(run(&file.input)).unwrap()
-}
-
-/// The last line of an output.
-fn last_line(text: &str) -> &str {
-    text.strip_suffix('\n').unwrap().rsplit('\n').next().unwrap()
-}
-
-/// The refusal that a name ends with.
-fn named_refusal(name: &str) -> Option<u32> {
-    name.rsplit('_').next().and_then(|word| word.parse().ok())
 }
 
 #[test]
@@ -79,20 +72,16 @@ fn same_bytes_twice() {
     let (one, two) = (all(), all());
     assert_eq!(one, two);
     assert_eq!(args(&one), args(&two));
-    assert_eq!(stdout(&one), stdout(&two));
+    assert_eq!(stdout(&one, run), stdout(&two, run));
 }
 
 #[test]
 fn number_names_and_sizes() {
     let files = all();
     assert!(files.len() >= 60);
-    let mut names: Vec<&str> = files.iter().map(|file| file.name.as_str()).collect();
-    let plain = |byte: u8| byte.is_ascii_lowercase() || byte.is_ascii_digit() || byte == b'_';
-    assert!(names.iter().all(|name| !name.is_empty() && name.len() <= 60 && name.bytes().all(plain)));
-    names.sort();
-    assert!(names.windows(2).all(|pair| pair[0] != pair[1]));
+    assert!(plain_names(&files));
     let size: usize = files.iter().map(|file| file.input.len()).sum();
-    assert!(size + args(&files).len() + stdout(&files).len() < 1_500_000);
+    assert!(size + args(&files).len() + stdout(&files, run).len() < 1_500_000);
     assert!(subjects().iter().all(|subject| !subject.files.is_empty()));
 }
 
@@ -125,7 +114,7 @@ fn every_refusal_of_the_program_occurs() {
     seen.sort();
     seen.dedup();
     assert_eq!(seen, [1, 2, 3, 4, 5, 6, 8, 13, 14]);
-    let text = String::from_utf8(stdout(&all())).unwrap();
+    let text = String::from_utf8(stdout(&all(), run)).unwrap();
     for number in seen {
         assert!(text.lines().any(|line| line.starts_with("refused\t") && line.ends_with(&format!("\t{number}"))));
     }
@@ -152,7 +141,7 @@ fn refused_at_the_line_of_its_kind() {
 fn lines_have_the_length_in_their_name() {
     for length in [4095, 4096, 4097, 10000, 10001] {
         let ending = format!("_line_of_{length}_bytes_13");
-        let files: Vec<ChainFile> = all().into_iter().filter(|file| file.name.ends_with(&ending)).collect();
+        let files: Vec<StoredFile> = all().into_iter().filter(|file| file.name.ends_with(&ending)).collect();
         assert!(!files.is_empty(), "{length}");
         for file in files {
             let longest = file.input.split_inclusive(|byte| *byte == b'\n').map(<[u8]>::len).max();
@@ -185,7 +174,7 @@ fn chains_are_as_long_as_they_say() {
 fn written_form() {
     let files = vec![all()[0].clone(), all()[1].clone()];
     assert_eq!(args(&files), b"printed_example\none_leaf\n");
-    let text = String::from_utf8(stdout(&files)).unwrap();
+    let text = String::from_utf8(stdout(&files, run)).unwrap();
     assert!(text.starts_with("== printed_example\nleaf\t1\t21\t49\t1\n"));
     assert!(text.ends_with("end\t1\tmember\n== one_leaf\nleaf\t1\t21\t49\t1\nend\t0\tmember\n"));
 }

@@ -14,15 +14,19 @@ use Rattle.settings.specs.Rules.{firstOf}
 use Rattle.settings.specs.Settings.{Parameters}
 use Rattle.text.specs.Fields.{fields, same, exactly, afterWord, recordOf, readU64, readI64, readTernary}
 use Rattle.text.proofs.Bytes.{same-eq}
+use Rattle.line_machines.specs.Machines.{longestLine, lineStep}
+use Rattle.line_machines.specs.Machines as Machines
+use Rattle.line_machines.proofs.Bytes.{takes-nothing}
 use Rattle.lova.specs.Answers.{refuses}
 use Rattle.lova.specs.Stored.{matrixA, matrixS, sizeC}
 use Rattle.lova.specs.Commit.{commit}
 use Rattle.chain.specs.Limits.{programRules}
+use Rattle.chain.specs.Params.{paramWord, fromFive, paramSetting, paramRefusal}
 use Rattle.chain.specs.Nodes.{Node, blankInstance, foldOf}
 use Rattle.chain.specs.Reports.{leafWord}
-use Rattle.chain.specs.Chain.{State, Counts, Stage, param, matrix, first, leaf, challenge, stopped, Step, start, fromFive, onSetting, onParam, onMatrix, onLeaf, onChallenge, takeDue, isStopped, badLine, takeLine, longestLine, paramWord, aWord, cWord}
+use Rattle.chain.specs.Chain.{State, Counts, Stage, param, matrix, first, leaf, challenge, stopped, Step, start, onSetting, onParam, onMatrix, onLeaf, onChallenge, takeDue, isStopped, badLine, takeLine, chainMachine, aWord, cWord}
 use Rattle.chain.specs.Program.{stateAfter, taken, firstIs, countC}
-use Rattle.chain.proofs.Bytes.{takes-nothing}
+use Rattle.chain.proofs.Stopping.{chain-stops}
 
 -- a line that is a record begins with its word
 module _ {A : Type 0} (read : List ℕ → Option A) (word v : List ℕ) (n : ℕ) (xs : List A) where
@@ -66,7 +70,7 @@ module _ (n : Counts) (line : List ℕ) where
   counted-setting p (suc r) e = inl (refl, refl)
 
   counted-param : (o : Option (List ℕ)) → recordOf readU64 paramWord 5 line ≡ o → Counted n line (onParam n o)
-  unfolding onParam same
+  unfolding onParam onSetting paramSetting paramRefusal same
   counted-param none e = inl (refl, refl)
   counted-param (some xs) e = counted-setting (fromFive xs) (firstOf (programRules (fromFive xs))) (counts-none paramWord (record-first readU64 paramWord cWord 5 xs line e) refl)
 
@@ -106,20 +110,20 @@ module _ (n : Counts) (line : List ℕ) where
   counted-bad s = counted-either (isStopped s) _ _ (inl (refl, refl)) (inl (refl, refl))
 
 counted-line : (s : State) (line : List ℕ) → Counted (s .counts) line (takeLine s line)
-unfolding takeLine
+unfolding lineStep
 counted-line s line = counted-either (s .counts) line (leb (length line) longestLine) _ _ (counted-due (s .counts) line (s .stage)) (counted-bad (s .counts) line (s .stage))
 
 -- a run that has stopped takes no line more
 stays : (s : State) (ls : List (List ℕ)) → s .stage ≡ stopped → stateAfter s ls .counts .folds ≡ s .counts .folds
-unfolding stateAfter
+unfolding Machines.stateAfter isStopped
 stays s [] e = refl
 stays s (line ∷ more) e =
-    let t = takes-nothing s line e in
-    stays (takeLine s line .state) more (ap (λ (x : Step). x .state .stage) t) ∙ ap (λ (x : Step). x .state .counts .folds) t
+    let t = takes-nothing chainMachine chain-stops s line (ap isStopped e) in
+    stays (takeLine s line .state) more (ap (λ (x : Step). x .state .stage) t ∙ e) ∙ ap (λ (x : Step). x .state .counts .folds) t
 
 -- from any state on, the folds are counted by the `c` records that are taken
 folds-from : (s : State) (ls : List (List ℕ)) → stateAfter s ls .counts .folds ≡ s .counts .folds + countC (taken s ls)
-unfolding stateAfter countC taken isStopped
+unfolding Machines.stateAfter countC taken isStopped
 folds-from s [] = omega arith
 folds-from s (line ∷ more) =
     let next = takeLine s line .state in

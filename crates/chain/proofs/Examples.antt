@@ -12,6 +12,7 @@ use Rattle.settings.specs.Rules.{firstOf}
 use Rattle.settings.specs.Settings.{kOf, greatest, LOf, repunit}
 use Rattle.settings.specs.HouseList.{parameters}
 use Rattle.digits.specs.Digits.{stepOf, restOf, digitOf}
+use Rattle.line_machines.specs.Machines.{lineStep, lastOutput, printed, outputOf}
 use Rattle.lova.specs.Answers.{unlessRefused, refusal, refuses}
 use Rattle.lova.specs.Tests.{all, every, eqZ, shortRight, diagonalWithin, areTernary, countsJoin}
 use Rattle.lova.specs.Fold.{beside, above, digitWitness, gadget}
@@ -24,10 +25,11 @@ use Rattle.numerals.specs.Numerals.{isDigit, areDigits, isPlain, valueFrom, nat
 use Rattle.text.specs.Fields.{onto, cutAt, same, push, exactly, afterWord, recordOf, readU64, readI64, readTernary}
 use Rattle.text.specs.Lines.{tabbed, joined, lineOf}
 use Rattle.chain.specs.Limits.{programLimits, largest, small, programRules}
+use Rattle.chain.specs.Params.{paramSetting, paramRefusal}
 use Rattle.chain.specs.Nodes.{nodeOf, unlessRefusing, foldAnswer, callsOf, foldOf}
 use Rattle.chain.specs.Reports.{wordOf, numbersOf, leafText, foldText, endLine, refusedLine}
-use Rattle.chain.specs.Chain.{State, challenge, tally, numberOf, onSetting, onParam, onMatrix, onLeaf, onChallenge, takeDue, isStopped, badLine, takeLine, endDue, atEnd}
-use Rattle.chain.specs.Program.{printed, program}
+use Rattle.chain.specs.Chain.{State, challenge, tally, numberOf, onSetting, onParam, onMatrix, onLeaf, onChallenge, takeDue, isStopped, badLine, takeLine, endDue}
+use Rattle.chain.specs.Program.{program}
 
 -- the printed example
 abbrev example : Type 0
@@ -88,7 +90,7 @@ abbrev too-many-leaves : Type 0
 too-many-leaves = takeLine (due 4294967295) c-line .output ≡ (114 ∷ 101 ∷ 102 ∷ 117 ∷ 115 ∷ 101 ∷ 100 ∷ 9 ∷ 53 ∷ 9 ∷ 49 ∷ 53 ∷ 10 ∷ [])
 
 pub examples : example × one-leaf × empty × challenge-missing × no-line-feed × growth × growth-first × too-large × too-long × not-due × most-leaves × too-many-leaves
-unfolding build sum sumℕ residue table lower mirrored ternary firstOf greatest LOf repunit stepOf restOf digitOf unlessRefused all every eqZ shortRight diagonalWithin areTernary countsJoin beside above digitWitness gadget commitRules instanceIn commitIn relationRules productsHold commitmentHolds memberWord relation messageRules preparedAs messageIn verdictRulesAs diagonalsHold firstHolds secondHolds foldedInstance verdictBy judged verdictIn verdictAs witnessRules foldedWitness witnessIn isDigit areDigits isPlain valueFrom naturalFrom natural withoutMinus withMinus integer fitUnsigned fitSigned readUnsigned readSigned unsignedOf signedOf decimalIn decimal decimalZ onto cutAt same push exactly afterWord recordOf readU64 readI64 readTernary tabbed joined lineOf small refusal refuses unlessRefusing foldAnswer callsOf foldOf wordOf numbersOf leafText foldText endLine refusedLine numberOf onSetting onParam onMatrix onLeaf onChallenge takeDue isStopped badLine takeLine endDue atEnd printed program
+unfolding build sum sumℕ residue table lower mirrored ternary firstOf greatest LOf repunit stepOf restOf digitOf unlessRefused all every eqZ shortRight diagonalWithin areTernary countsJoin beside above digitWitness gadget commitRules instanceIn commitIn relationRules productsHold commitmentHolds memberWord relation messageRules preparedAs messageIn verdictRulesAs diagonalsHold firstHolds secondHolds foldedInstance verdictBy judged verdictIn verdictAs witnessRules foldedWitness witnessIn isDigit areDigits isPlain valueFrom naturalFrom natural withoutMinus withMinus integer fitUnsigned fitSigned readUnsigned readSigned unsignedOf signedOf decimalIn decimal decimalZ onto cutAt same push exactly afterWord recordOf readU64 readI64 readTernary tabbed joined lineOf small refusal refuses unlessRefusing foldAnswer callsOf foldOf wordOf numbersOf leafText foldText endLine refusedLine numberOf onSetting paramSetting paramRefusal onParam onMatrix onLeaf onChallenge takeDue isStopped badLine lineStep endDue lastOutput printed outputOf
 examples = (refl, refl, refl, refl, refl, refl, refl, refl, refl, refl, refl, refl)
 
 -- the setting with the largest matrices is taken, and its k is the most

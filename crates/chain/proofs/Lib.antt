@@ -1,4 +1,4 @@
-pub mod Bytes
+pub mod Stopping
 pub mod Counts
 pub mod Limits
 pub mod Numbers

@@ -17,6 +17,8 @@ use Rattle.settings.specs.Settings.{Parameters, settingRules, settingRefusal}
 use Rattle.settings.proofs.Rules.{stop-all}
 use Rattle.text.specs.Fields.{recordOf, readU64, readI64, readTernary}
 use Rattle.text.proofs.Records.{record-each, ternary-each, each-at}
+use Rattle.line_machines.specs.Machines.{longestLine, lineStep, lastOutput}
+use Rattle.line_machines.specs.Machines as Machines
 use Rattle.lova.specs.Answers.{«yes», member, refused, Outcome, ends, refusal, refuses}
 use Rattle.lova.specs.Stored.{counted, mostLeaves, matrixA, matrixS, sizeC}
 use Rattle.lova.specs.Calls.{Fits}
@@ -25,9 +27,10 @@ use Rattle.lova.specs.Commit.{instanceOf, commit}
 use Rattle.lova.specs.Trees.{Tree, leaf, fold, leavesOf, Proper, seen, viewOf, leftWitness}
 use Rattle.lova.proofs.Refusals.{commit-proper}
 use Rattle.chain.specs.Limits.{settingLimits, small, programLimits, programRules}
+use Rattle.chain.specs.Params.{paramWord, fromFive, paramSetting, paramRefusal}
 use Rattle.chain.specs.Nodes.{Node, blankInstance, foldOf}
 use Rattle.chain.specs.Reports.{leafWord, leafLine, foldLine, endLine}
-use Rattle.chain.specs.Chain.{State, Counts, Stage, param, matrix, first, challenge, stopped, Step, start, refuse, fromFive, numberOf, onSetting, onParam, onMatrix, onLeaf, onChallenge, takeDue, isStopped, badLine, takeLine, endDue, atEnd, longestLine, paramWord, aWord, cWord}
+use Rattle.chain.specs.Chain.{State, Counts, Stage, param, matrix, first, challenge, stopped, Step, start, refuse, numberOf, onSetting, onParam, onMatrix, onLeaf, onChallenge, takeDue, isStopped, badLine, takeLine, endDue, atEnd, aWord, cWord}
 use Rattle.chain.specs.Chain as Chain
 use Rattle.chain.specs.Program.{stateAfter}
 use Rattle.chain.specs.Trees.{blankHeld, treeNode, Spells, one, more}
@@ -165,7 +168,7 @@ module _ (ls : List (List ℕ)) (n : Counts) (line : List ℕ) where
   at-setting p (suc r) h = tt
 
   at-param : ls ≡ [] → (o : Option (List ℕ)) → recordOf readU64 paramWord 5 line ≡ o → Reached more-lines (onParam n o .state .stage)
-  unfolding onParam
+  unfolding onParam onSetting paramSetting paramRefusal
   at-param e none h = tt
   at-param e (some xs) h =
       at-setting (fromFive xs) (firstOf (programRules (fromFive xs)))
@@ -257,7 +260,7 @@ module _ (ls : List (List ℕ)) (n : Counts) (line : List ℕ) where
   at-bad s = either more-lines (isStopped s) _ _ tt (λ e. tt)
 
 at-line : (ls : List (List ℕ)) (s : State) (line : List ℕ) → Reached ls (s .stage) → Reached (ls ++ (line ∷ [])) (takeLine s line .state .stage)
-unfolding takeLine
+unfolding lineStep
 at-line ls s line r = by (leb (length line) longestLine)
   where
     by : (c : Bool) → Reached (ls ++ (line ∷ [])) ((cond c (takeDue (s .counts) (s .stage) line) (badLine (s .counts) (s .stage))) .state .stage)
@@ -265,7 +268,7 @@ at-line ls s line r = by (leb (length line) longestLine)
     by false = at-bad ls (s .counts) line (s .stage)
 
 from-there : (before : List (List ℕ)) (s : State) (ls : List (List ℕ)) → Reached before (s .stage) → Reached (before ++ ls) (stateAfter s ls .stage)
-unfolding stateAfter
+unfolding Machines.stateAfter
 from-there before s [] r = subst (λ (m : List (List ℕ)). Reached m (s .stage)) (sym (append-nil before)) r
 from-there before s (line ∷ rest) r =
     subst (λ (m : List (List ℕ)). Reached m (stateAfter (takeLine s line .state) rest .stage)) (append-assoc before (line ∷ []) rest)
@@ -300,7 +303,7 @@ pub leaf-says-one : (s : State) (line : List ℕ) (p : Parameters) (A : List ℕ
     → (s .stage ≡ first p A) ⊎ ((node : Node) × (s .stage ≡ Chain.leaf p A node))
     → length line ≤ longestLine → recordOf readI64 leafWord (matrixS p .size) line ≡ some S → refuses ((commit p A S (blankInstance p)) .answer) ≡ false
     → takeLine s line .output ≡ leafLine p (s .counts .leaves + 1) (counted (instanceOf p A S) 1)
-unfolding takeLine takeDue onLeaf refusal refuses
+unfolding lineStep takeDue onLeaf refusal refuses
 leaf-says-one s line p A S (inl e) h k f = rw (line-fits line h, e, k, commit-makes p A S (blankInstance p) f) refl
 leaf-says-one s line p A S (inr e) h k f = rw (line-fits line h, e .1, k, commit-makes p A S (blankInstance p) f) refl
 
@@ -314,7 +317,7 @@ module _ (ls : List (List ℕ)) (line : List ℕ) (p : Parameters) (A : List ℕ
   -- every challenge that is read is folded, and its line says yes with the instance of the larger tree and the number of its leaves
   pub fold-says-yes : leavesOf (waits .grown .tree) + 1 ≤ mostLeaves
       → takeLine (stateAfter start ls) line .output ≡ foldLine p (stateAfter start ls .counts .folds + 1) «yes» (counted ((treeNode p A grown) .instance .instance) (leavesOf grown))
-  unfolding takeLine takeDue onChallenge refusal refuses leavesOf
+  unfolding lineStep takeDue onChallenge refusal refuses leavesOf
   fold-says-yes few =
       let g = waits .grown in
       let f = fold-node ls line p A node new waits C k few in
@@ -323,13 +326,13 @@ module _ (ls : List (List ℕ)) (line : List ℕ) (p : Parameters) (A : List ℕ
 
   -- but with as many leaves as can be counted it is refused with 15
   pub fold-too-many : mostLeaves < leavesOf (waits .grown .tree) + 1 → takeLine (stateAfter start ls) line ≡ refuse (stateAfter start ls .counts) 15
-  unfolding takeLine takeDue onChallenge refusal refuses numberOf leavesOf
+  unfolding lineStep takeDue onChallenge refusal refuses numberOf leavesOf
   fold-too-many many = rw (e, line-fits line h, k, fold-refused ls line p A node new waits C k many) refl
 
 -- where the input may end, the last line is the number of folds and member
 pub end-says-member : (ls : List (List ℕ)) (p : Parameters) (A : List ℕ) (node : Node) → stateAfter start ls .stage ≡ Chain.leaf p A node
     → atEnd (stateAfter start ls) [] ≡ endLine (stateAfter start ls .counts .folds) member
-unfolding atEnd endDue
+unfolding lastOutput endDue
 end-says-member ls p A node e =
     let g = run-is-tree ls p A node e in
     rw (e, g .node-is) (ap (endLine (stateAfter start ls .counts .folds)) (member-is p A (g .ok) (g .sizeA) (g .tree) (g .proper) (g .few)))

@@ -4,35 +4,37 @@
 use mathlib.Core.Path.{_≡_}
 use mathlib.Core.Logic.{_⊎_}
 use mathlib.Core.Bool.{false}
-use mathlib.Core.List.{List, [], _++_}
+use mathlib.Core.List.{List, []}
 use mathlib.Core.Option.{some}
 use Prim.Native.Nat.{ℕ, _+_, _≤_, _<_}
 use lib.IntN.{ℤ}
 use lib.ListN.{length}
 use Rattle.settings.specs.Settings.{Parameters}
 use Rattle.text.specs.Fields.{recordOf, readI64, readTernary}
+use Rattle.line_machines.specs.Machines.{longestLine, unfed, bytewise, chunked, whole}
+use Rattle.line_machines.proofs.Bytes as Bytes
 use Rattle.lova.specs.Answers.{«yes», member, refuses}
 use Rattle.lova.specs.Stored.{counted, mostLeaves, matrixS, sizeC}
 use Rattle.lova.specs.Commit.{instanceOf, commit}
 use Rattle.lova.specs.Trees.{Tree, leaf, fold, leavesOf}
 use Rattle.chain.specs.Nodes.{Node, blankInstance}
 use Rattle.chain.specs.Reports.{leafWord, leafLine, foldLine, endLine}
-use Rattle.chain.specs.Chain.{State, first, challenge, start, refuse, takeLine, atEnd, longestLine, cWord}
+use Rattle.chain.specs.Chain.{State, first, challenge, start, refuse, takeLine, atEnd, chainMachine, cWord}
 use Rattle.chain.specs.Chain as Chain
-use Rattle.chain.specs.Program.{program, stateAfter, taken, countC, unfed, feedAll, feedOutput, feedEnd, chunked, whole}
+use Rattle.chain.specs.Program.{program, stateAfter, taken, countC}
 use Rattle.chain.specs.Trees.{treeNode}
-use Rattle.chain.proofs.Bytes as Bytes
+use Rattle.chain.proofs.Stopping.{chain-stops}
 use Rattle.chain.proofs.Counts as Counts
 use Rattle.chain.proofs.Reached as Reached
 use Rattle.chain.proofs.Reached.{Grown, Waiting}
 
 -- byte by byte is line by line
-pub by-bytes : (input : List ℕ) → feedOutput unfed input ++ feedEnd (feedAll unfed input) ≡ program input
-by-bytes = Bytes.by-bytes
+pub by-bytes : (input : List ℕ) → bytewise chainMachine (unfed chainMachine) input ≡ program input
+by-bytes = Bytes.by-bytes chainMachine chain-stops
 
 -- in whatever chunks the input comes, the program prints the same
-pub any-chunks : (cs : List (List ℕ)) → chunked unfed cs ≡ program (whole cs)
-any-chunks = Bytes.any-chunks
+pub any-chunks : (cs : List (List ℕ)) → chunked chainMachine (unfed chainMachine) cs ≡ program (whole cs)
+any-chunks = Bytes.any-chunks chainMachine chain-stops
 
 -- the fold count of the run state is the number of `c` records taken so far, in refused runs too
 pub folds-are-c : (ls : List (List ℕ)) → stateAfter start ls .counts .folds ≡ countC (taken start ls)

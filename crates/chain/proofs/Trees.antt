@@ -58,10 +58,10 @@ module _ (p : Parameters) (A : List ℕ) (ok : settingRefusal p ≡ 0) (sizeA : 
   tree-honest t proper few = every-tree-is-honest p A t (blankHeld p t) ok sizeA proper few (held-fits p t)
 
   -- the node of a tree by its plain witness: the instance of that, with the number of the tree's leaves
-  abbrev plainNode : Tree → Node
+  abbrev pub plainNode : Tree → Node
   plainNode t = record { instance = counted (instanceOf p A (plain p t)) (leavesOf t); witness = plain p t }
 
-  node-plain : (t : Tree) → Proper p t → leavesOf t ≤ mostLeaves → treeNode p A t ≡ plainNode t
+  pub node-plain : (t : Tree) → Proper p t → leavesOf t ≤ mostLeaves → treeNode p A t ≡ plainNode t
   unfolding treeNode
   node-plain t proper few = let h = tree-honest t proper few in rw (h .verifier, h .witness) refl
 

@@ -3,24 +3,18 @@ use mathlib.Core.Bool.{Bool, true, false, cond}
 use mathlib.Core.List.{List, [], _∷_}
 use mathlib.Core.Option.{Option, some, none}
 use Prim.Native.Nat.{ℕ, zero, suc, _+_}
-use lib.Dec.{leb}
 use lib.IntN.{ℤ}
-use lib.ListN.{length, getD}
-use Rattle.settings.specs.Rules.{firstOf}
 use Rattle.settings.specs.Settings.{Parameters}
-use Rattle.settings.specs.HouseList.{parameters}
 use Rattle.text.specs.Fields.{recordOf, readU64, readI64, readTernary}
+use Rattle.line_machines.specs.Machines.{Machine, lineStep, lastOutput}
+use Rattle.line_machines.specs.Machines as Machines
 use Rattle.lova.specs.Answers.{Meaning, refusal, refuses}
 use Rattle.lova.specs.Stored.{matrixA, matrixS, sizeC}
 use Rattle.lova.specs.Commit.{commit}
 use Rattle.lova.specs.Relation.{relation}
-use Rattle.chain.specs.Limits.{programRules}
+use Rattle.chain.specs.Params.{paramWord, paramSetting, paramRefusal}
 use Rattle.chain.specs.Nodes.{Node, blankInstance, foldOf}
 use Rattle.chain.specs.Reports.{leafWord, leafLine, foldLine, endLine, refusedLine}
-
--- `param`
-abbrev pub paramWord : List ℕ
-paramWord = 112 ∷ 97 ∷ 114 ∷ 97 ∷ 109 ∷ []
 
 -- `a`
 abbrev pub aWord : List ℕ
@@ -29,10 +23,6 @@ aWord = 97 ∷ []
 -- `c`
 abbrev pub cWord : List ℕ
 cWord = 99 ∷ []
-
--- a line has at most 4096 bytes with its line feed
-abbrev pub longestLine : ℕ
-longestLine = 4095
 
 -- what is due, with what the run has read and made so far
 pub data Stage : Type 0 where
@@ -61,9 +51,8 @@ pub record State : Type 0 where
   pub stage : Stage
 
 -- what comes of a line: the run state, and the bytes that are printed
-pub record Step : Type 0 where
-  pub state : State
-  pub output : List ℕ
+abbrev pub Step : Type 0
+Step = Machines.Step State
 
 abbrev pub tally : ℕ → ℕ → ℕ → Counts
 tally line leaves folds = record { line = line; leaves = leaves; folds = folds }
@@ -92,14 +81,9 @@ unfoldable pub onSetting : Counts → Parameters → ℕ → Step
 onSetting n p zero = next n (matrix p)
 onSetting n p (suc r) = refuse n (suc r)
 
--- the setting of the five numbers of a `param` record
-abbrev pub fromFive : List ℕ → Parameters
-fromFive xs = parameters (getD xs 0 0) (getD xs 1 0) (getD xs 2 0) (getD xs 3 0) (getD xs 4 0)
-
 -- `param` with n, m, t, b, B: 13, then 1 to 6, then 14
 unfoldable pub onParam : Counts → Option (List ℕ) → Step
-onParam n none = refuse n 13
-onParam n (some xs) = onSetting n (fromFive xs) (firstOf (programRules (fromFive xs)))
+onParam n o = onSetting n (paramSetting o) (paramRefusal o)
 
 -- `a` with n×m entries: 13
 unfoldable pub onMatrix : Counts → Parameters → Option (List ℕ) → Step
@@ -146,10 +130,6 @@ isStopped stopped = true
 unfoldable pub badLine : Counts → Stage → Step
 badLine n due = cond (isStopped due) (step n stopped []) (refuse n 13)
 
--- one line, without its line feed
-unfoldable pub takeLine : State → List ℕ → Step
-takeLine s line = cond (leb (length line) longestLine) (takeDue (s .counts) (s .stage) line) (badLine (s .counts) (s .stage))
-
 -- the end of the input by what is due: a missing line is 13 with the number after the last
 unfoldable pub endDue : Counts → Stage → List ℕ
 endDue n param = refusedLine (n .line + 1) 13
@@ -159,7 +139,20 @@ endDue n (leaf p A accumulated) = endLine (n .folds) ((relation p A (accumulated
 endDue n (challenge p A accumulated new) = refusedLine (n .line + 1) 13
 endDue n stopped = []
 
--- the end of the input, with what stands after the last line feed: a line without its line feed is bad
-unfoldable pub atEnd : State → List ℕ → List ℕ
-atEnd s [] = endDue (s .counts) (s .stage)
-atEnd s (x ∷ rest) = badLine (s .counts) (s .stage) .output
+-- the chain program, by its run state
+abbrev pub chainMachine : Machine State
+chainMachine = record {
+  start = start;
+  onLine = λ s line. takeDue (s .counts) (s .stage) line;
+  onBad = λ s. badLine (s .counts) (s .stage);
+  onEnd = λ s. endDue (s .counts) (s .stage);
+  stopped = λ s. isStopped (s .stage);
+}
+
+-- one line, without its line feed
+abbrev pub takeLine : State → List ℕ → Step
+takeLine s line = lineStep chainMachine s line
+
+-- the end of the input, with what stands after the last line feed
+abbrev pub atEnd : State → List ℕ → List ℕ
+atEnd s rest = lastOutput chainMachine s rest

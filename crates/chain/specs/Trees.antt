@@ -13,7 +13,8 @@ use Rattle.lova.specs.Stored.{matrixA, matrixS, sizeC, joinedT, joinedD}
 use Rattle.lova.specs.Trees.{Tree, leaf, fold, foldFresh, Before, Held, seen, viewOf, leftWitness}
 use Rattle.chain.specs.Nodes.{Node, blankRight, blankInstance, blankPreparedIn, blankWitness}
 use Rattle.chain.specs.Reports.{leafWord}
-use Rattle.chain.specs.Chain.{paramWord, aWord, cWord, fromFive}
+use Rattle.chain.specs.Params.{paramWord, fromFive}
+use Rattle.chain.specs.Chain.{aWord, cWord}
 
 -- what the calls of a fold, and all calls of a tree, find in their outputs: zeros
 abbrev pub blankBefore : Parameters → Profile → Before

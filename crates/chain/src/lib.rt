@@ -14,9 +14,6 @@ pub const MAX_T: usize = 2;
 
 pub const MAX_K: usize = 8;
 
-// The longest line, without its line feed.
-pub const LONGEST_LINE: usize = 4095;
-
 // Whether the program takes a setting that the constructor gave.
 pub fn is_small(setting: Setting) -> bool
     requires { ⌜ Rebuilt setting ⌝ }

@@ -5,8 +5,9 @@ use Prim.Native.Nat.{ℕ, _+_, _-_, _^_, _≤_, _<_}
 use native.Mathlib.Omega.{arith}
 use lib.ListN.{length, take, drop, length-drop}
 use lib.Seq.{take-all, take-add}
-use Rattle.chain.specs.Program.{Feeding, feedAll}
-use Rattle.chain.proofs.Bytes.{feed-append}
+use Rattle.line_machines.specs.Machines.{Feeding, feedAll}
+use Rattle.line_machines.proofs.Bytes.{feed-append}
+use Rattle.chain.specs.Chain.{State, chainMachine}
 use Rattle.states.specs.Lent.{Store, Lent, Roomy}
 use Rattle.driver.specs.Feeds.{feedingOf, Steady}
 use Rattle.driver.specs.Readings.{FedWithin}
@@ -21,7 +22,7 @@ pub record Going (chunk : List ℕ) (before : Feed) (line₀ : List ℕ) (m₀ :
   pub low : before .run .line + length chunk < 2 ^ 62
   pub lent : Lent m
   pub roomy : Roomy out
-  pub fed : feedingOf f line m ≡ feedAll (feedingOf before line₀ m₀) (take at chunk)
+  pub fed : feedingOf f line m ≡ feedAll chainMachine (feedingOf before line₀ m₀) (take at chunk)
 
 module _ (chunk : List ℕ) (before : Feed) (line₀ : List ℕ) (m₀ : Store) where
   pub going-start : (out : List ℕ) → Steady before line₀ → before .run .line + length chunk < 2 ^ 62 → Lent m₀ → Roomy out → Going chunk before line₀ m₀ before line₀ m₀ out 0
@@ -37,7 +38,7 @@ module _ (chunk : List ℕ) (before : Feed) (line₀ : List ℕ) (m₀ : Store) 
     part-long = ap length part-is ∙ rw length-drop refl
 
     pub going-more : (r : Fed) (line′ : List ℕ) (m′ : Store) (out′ : List ℕ) → at < length chunk
-        → feedingOf (r .feed) line′ m′ ≡ feedAll (feedingOf f line m) (take (r .used) (take (length chunk - at) (drop at chunk)))
+        → feedingOf (r .feed) line′ m′ ≡ feedAll chainMachine (feedingOf f line m) (take (r .used) (take (length chunk - at) (drop at chunk)))
         → FedWithin r f line′ (length (take (length chunk - at) (drop at chunk))) → Lent m′ → Roomy out′
         → Going chunk before line₀ m₀ (r .feed) line′ m′ out′ (at + r .used)
     going-more r line′ m′ out′ h e w k o =
@@ -48,11 +49,11 @@ module _ (chunk : List ℕ) (before : Feed) (line₀ : List ℕ) (m₀ : Store) 
           low = g .low;
           lent = k;
           roomy = o;
-          fed = e ∙ ap (λ (p : List ℕ). feedAll (feedingOf f line m) (take (r .used) p)) part-is
-              ∙ ap (λ (x : Feeding). feedAll x (take (r .used) (drop at chunk))) (g .fed)
-              ∙ sym (feed-append (feedingOf before line₀ m₀) (take at chunk) (take (r .used) (drop at chunk)))
-              ∙ ap (feedAll (feedingOf before line₀ m₀)) (sym (take-add at (r .used) chunk));
+          fed = e ∙ ap (λ (p : List ℕ). feedAll chainMachine (feedingOf f line m) (take (r .used) p)) part-is
+              ∙ ap (λ (x : Feeding State). feedAll chainMachine x (take (r .used) (drop at chunk))) (g .fed)
+              ∙ sym (feed-append chainMachine (feedingOf before line₀ m₀) (take at chunk) (take (r .used) (drop at chunk)))
+              ∙ ap (feedAll chainMachine (feedingOf before line₀ m₀)) (sym (take-add at (r .used) chunk));
         }
 
-    pub going-end : length chunk ≤ at → feedingOf f line m ≡ feedAll (feedingOf before line₀ m₀) chunk
-    going-end h = g .fed ∙ ap (feedAll (feedingOf before line₀ m₀)) (take-all at chunk h)
+    pub going-end : length chunk ≤ at → feedingOf f line m ≡ feedAll chainMachine (feedingOf before line₀ m₀) chunk
+    going-end h = g .fed ∙ ap (feedAll chainMachine (feedingOf before line₀ m₀)) (take-all at chunk h)

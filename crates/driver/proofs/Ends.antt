@@ -8,6 +8,7 @@ use denote.Enum.Declared.{tagOf}
 use types.Run.{OneOf, miss}
 use Rattle.settings.specs.Settings.{Parameters, parametersOf}
 use Rattle.chain.specs.Reports.{refusedLine}
+use Rattle.line_machines.specs.Machines.{lastOutput}
 use Rattle.chain.specs.Chain.{Counts, Step, badLine, endDue, atEnd}
 use Rattle.states.specs.Lent.{Store, stageOf, countsOf, stateOf, stepOf}
 use Rattle.states.specs.declared.Due.{Due}
@@ -31,12 +32,12 @@ end-missing n Dues.Nothing under p m h = absurd (miss unfinished (tagOf the-type
 
 module _ (r : Run) (m : Store) (out : List ℕ) where
   pub end-bad : (rest : List ℕ) (t : Taken) → 0 < length rest → stepOf t m out ≡ badLine (countsOf r) (stateOf r m .stage) → take (t .length) out ≡ atEnd (stateOf r m) rest
-  unfolding atEnd
+  unfolding lastOutput
   end-bad [] t h come = absurd (omega arith)
   end-bad (x ∷ rest) t h come = ap (λ (s : Step). s .output) come
 
   pub end-due : (rest : List ℕ) (n : ℕ) (d : Due) → length rest ≤ 0 → r .due ≡ d → take n out ≡ endDue (countsOf r) (stageOf d (r .under) (parametersOf (r .setting)) m)
       → take n out ≡ atEnd (stateOf r m) rest
-  unfolding atEnd
+  unfolding lastOutput
   end-due [] n d h e is = is ∙ ap (λ (d : Due). endDue (countsOf r) (stageOf d (r .under) (parametersOf (r .setting)) m)) (sym e)
   end-due (x ∷ rest) n d h e is = absurd (omega arith)

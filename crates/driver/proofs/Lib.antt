@@ -1,4 +1,3 @@
-mod Cutting
 mod Reading
 mod ChunkParts
 mod Ends

@@ -2,7 +2,8 @@
 ghost use mathlib.Core.Path.{_≡_};
 ghost use Prim.Native.Nat.{_+_, _^_, _≤_, _<_};
 ghost use lib.ListN.{length};
-ghost use Rattle.chain.specs.Program.{feedAll};
+ghost use Rattle.line_machines.specs.Machines.{feedAll};
+ghost use Rattle.chain.specs.Chain.{chainMachine};
 ghost use Rattle.states.specs.Lent.{store, storeBefore, storeAfter, Lent, Roomy};
 ghost use Rattle.driver.specs.Feeds.{feedingOf, Steady};
 use crate::feeds::Feed;
@@ -32,7 +33,8 @@ pub(crate) fn feed_chunk(
     requires { ⌜ Lent (store (now a) (now t1) (now d1) (now s1) (now t2) (now d2) (now s2)) ⌝ }
     ensures { λ r. ⌜
         feedingOf r (now (line .exit)) (storeAfter a t1 d1 s1 t2 d2 s2)
-        ≡ feedAll (feedingOf feed (now (line .entry)) (storeBefore a t1 d1 s1 t2 d2 s2)) (now (chunk .entry)) ⌝ }
+        ≡ feedAll chainMachine (feedingOf feed (now (line .entry)) (storeBefore a t1 d1 s1 t2 d2 s2))
+        (now (chunk .entry)) ⌝ }
     ensures { λ r. ⌜ Steady r (now (line .exit))
         × (r .run .line ≤ feed .run .line + length (now (chunk .entry))) ⌝ }
 {

@@ -3,8 +3,8 @@ ghost use mathlib.Core.Path.{_≡_};
 ghost use Prim.Native.Nat.{_^_, _≤_, _<_};
 ghost use lib.ListN.{take};
 ghost use Rattle.chain.specs.Nodes.{nodeOf, nodeBefore};
-ghost use Rattle.chain.specs.Chain.{isStopped};
-ghost use Rattle.chain.specs.Program.{feedEnd};
+ghost use Rattle.line_machines.specs.Machines.{feedEnd};
+ghost use Rattle.chain.specs.Chain.{isStopped, chainMachine};
 ghost use Rattle.states.specs.Lent.{Whatever, withA, withFirst, stateOf, LentNode, Roomy};
 ghost use Rattle.driver.specs.Feeds.{feedingOf, Steady, Unfed};
 use states::Due;
@@ -43,7 +43,7 @@ impl Feed {
         requires { ⌜ LentNode (now a) (nodeOf (now t1) (now d1) 0 (now s1)) ⌝ }
         ensures { λ r. ⌜ Whatever (λ m.
             take r (now (out .exit))
-            ≡ feedEnd (feedingOf self (now (line .entry))
+            ≡ feedEnd chainMachine (feedingOf self (now (line .entry))
             (withFirst (nodeBefore t1 d1 0 s1) (withA (now (a .entry)) m)))) ⌝ }
         ensures { λ r. ⌜ r ≤ 512 ⌝ }
     {

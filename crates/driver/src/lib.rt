@@ -6,7 +6,6 @@ ghost use Rattle.states.specs.Lent.{LentNode, Roomy};
 ghost use Rattle.driver.specs.Feeds.{Steady};
 
 mod chunks;
-mod cuts;
 mod endings;
 mod feeds;
 mod last_line;

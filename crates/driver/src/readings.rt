@@ -2,7 +2,8 @@
 ghost use mathlib.Core.Path.{_≡_};
 ghost use Prim.Native.Nat.{_^_, _<_};
 ghost use lib.ListN.{length, take};
-ghost use Rattle.chain.specs.Program.{feedAll, feedOutput};
+ghost use Rattle.line_machines.specs.Machines.{feedAll, feedOutput};
+ghost use Rattle.chain.specs.Chain.{chainMachine};
 ghost use Rattle.states.specs.Lent.{store, storeBefore, storeAfter, Lent, Roomy};
 ghost use Rattle.driver.specs.Feeds.{feedingOf, Steady};
 ghost use Rattle.driver.specs.Readings.{FedWithin};
@@ -33,16 +34,16 @@ pub(crate) fn read(
     requires { ⌜ Lent (store (now a) (now t1) (now d1) (now s1) (now t2) (now d2) (now s2)) ⌝ }
     ensures { λ r. ⌜
         feedingOf (r .feed) (now (line .exit)) (storeAfter a t1 d1 s1 t2 d2 s2)
-        ≡ feedAll (feedingOf feed (now (line .entry)) (storeBefore a t1 d1 s1 t2 d2 s2))
+        ≡ feedAll chainMachine (feedingOf feed (now (line .entry)) (storeBefore a t1 d1 s1 t2 d2 s2))
         (take (r .used) (now (chunk .entry))) ⌝ }
     ensures { λ r. ⌜
         take (r .length) (now (out .exit))
-        ≡ feedOutput (feedingOf feed (now (line .entry)) (storeBefore a t1 d1 s1 t2 d2 s2))
+        ≡ feedOutput chainMachine (feedingOf feed (now (line .entry)) (storeBefore a t1 d1 s1 t2 d2 s2))
         (take (r .used) (now (chunk .entry))) ⌝ }
     ensures { λ r. ⌜ FedWithin r feed (now (line .exit)) (length (now (chunk .entry))) ⌝ }
 {
     let run = feed.run;
-    let cut = crate::cuts::cut_line(chunk, line, feed.length);
+    let cut = line_machines::cut_line(chunk, line, feed.length);
     let length = cut.length;
     if !cut.ended {
         let next = Feed {

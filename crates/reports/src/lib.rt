@@ -7,9 +7,6 @@ ghost use Rattle.numerals.specs.Bytes.{written};
 ghost use Rattle.text.specs.Lines.{tabbed};
 ghost use Rattle.lova.specs.Answers.{verdictOf};
 ghost use Rattle.chain.specs.Reports.{instanceText, wordOf, leafText, foldText};
-
-mod lists;
-
 use lova::Verdict;
 
 // The numbers of t and d and the leaf count, a tab before each, from `at` on, and a line feed; answers the place past
@@ -22,7 +19,7 @@ fn put_instance(out: &mut [u8], at: usize, t: &[u64], d: &[i64], leaves: u64) ->
         × (r ≤ at + 21 * length (now (t .entry)) + 21 * length (now (d .entry)) + 22) ⌝ }
 {
     let after_t = field_writers::put_u64s(out, at, t);
-    let after_d = lists::put_i64s(out, after_t, d);
+    let after_d = field_writers::put_i64s(out, after_t, d);
     let after_leaves = field_writers::put_number(out, after_d, leaves);
     out[after_leaves] = 10;
     after_leaves + 1

@@ -1,5 +1,5 @@
 pub mod ChallengeLines
 pub mod LeafLines
 pub mod Matrices
-pub mod Refusals
+pub mod ParamLines
 mod Lines

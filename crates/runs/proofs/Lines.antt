@@ -4,6 +4,7 @@ use mathlib.Core.List.{List}
 use Prim.Native.Nat.{ℕ, _≤_, _<_}
 use borrow.Author.Tests.{le-leb, lt-leb}
 use lib.ListN.{length}
+use Rattle.line_machines.specs.Machines.{lineStep}
 use Rattle.chain.specs.Chain.{State, Step, takeDue, takeLine, badLine}
 use Rattle.states.specs.Lent.{Store, stageOf, stateOf, stepOf, lineDue}
 use Rattle.states.specs.declared.Due.{Due}
@@ -12,11 +13,11 @@ use Rattle.states.specs.declared.Run.{Run}
 
 module _ (s : State) (line : List ℕ) where
   line-short : length line ≤ 4095 → takeLine s line ≡ takeDue (s .counts) (s .stage) line
-  unfolding takeLine
+  unfolding lineStep
   line-short h = rw (le-leb (length line) 4095 h) refl
 
   pub line-bad : 4095 < length line → takeLine s line ≡ badLine (s .counts) (s .stage)
-  unfolding takeLine
+  unfolding lineStep
   line-bad h = rw (lt-leb (length line) 4095 h) refl
 
 module _ (r : Run) (m : Store) (line : List ℕ) (short : length line ≤ 4095) where

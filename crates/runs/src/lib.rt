@@ -40,7 +40,7 @@ pub fn take(
     ensures { λ r. ⌜ (r .run .due ≡ Dues.Nothing
         → storeAfter a t1 d1 s1 t2 d2 s2 ≡ storeBefore a t1 d1 s1 t2 d2 s2) ⌝ }
 {
-    if chain::LONGEST_LINE < line.len() {
+    if line_machines::LONGEST_LINE < line.len() {
         return state.refuse_bad(out);
     }
     let due = state.due;

@@ -2,7 +2,6 @@
 ghost use mathlib.Core.Path.{_≡_};
 ghost use Rattle.states.specs.Lent.{Whatever, stepOf, lineDue, Ready, Safe};
 ghost use Rattle.states.specs.declared.Due.the-variants as Dues;
-use settings::Setting;
 use states::Due;
 use states::Run;
 use states::Taken;
@@ -22,25 +21,12 @@ impl Param {
         ensures { λ r. ⌜ Safe r (self .run) ⌝ }
     {
         let state = self.run;
-        let mut five = [0u64; 5];
-        if !field_readers::read_u64s(line, b"param", &mut five) {
-            return state.refuse(13, out);
-        }
-        let checked = Setting::new(
-            five[0] as usize,
-            five[1] as usize,
-            five[2] as usize,
-            five[3],
-            five[4],
-        );
-        let number = checked.refusal;
+        let opened = param_lines::read_setting(line);
+        let number = opened.refusal;
         if number != 0 {
             return state.refuse(number, out);
         }
-        let setting = checked.setting;
-        if !chain::is_small(setting) {
-            return state.refuse(14, out);
-        }
+        let setting = opened.setting;
         let run = Run {
             due: Due::Matrix,
             line: state.line + 1,

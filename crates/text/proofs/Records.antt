@@ -10,7 +10,7 @@ use lib.IntN.{ℤ}
 use lib.ListN.{length, getD}
 use mir.Syntax.{w64}
 use mir.Val.{SFits}
-use borrow.Author.Tests.{eqb-true}
+use borrow.Author.Tests.{eqb-true, ne-eqb}
 use Rattle.numerals.specs.Bytes.{lacks}
 use Rattle.numerals.specs.Numerals.{readUnsigned, readSigned, unsignedOf, signedOf, decimal, decimalZ}
 use Rattle.numerals.specs.declared.ParsedU64.{ParsedU64}
@@ -20,7 +20,7 @@ use Rattle.numerals.specs.declared.ParsedI64.the-variants as Signed
 use Rattle.numerals.proofs.Writing.{decimal-lacks, decimalZ-lacks}
 use Rattle.numerals.proofs.RoundTrip.{unsigned-back, signed-back, unsigned-only, signed-only}
 use Rattle.text.specs.Fields.{onto, fields, same, push, exactly, afterWord, recordOf, readU64, readI64, readTernary, cutAt}
-use Rattle.text.specs.Lines.{tabbed, joined}
+use Rattle.text.specs.Lines.{tabbed, joined, ternaryNumeral}
 use Rattle.text.proofs.Bytes.{same-refl, same-eq}
 use Rattle.text.proofs.Fields.{fields-first}
 
@@ -38,7 +38,7 @@ each-at P [] d e i h = absurd (omega arith)
 each-at P (v ∷ vs) d e zero h = e .0
 each-at P (v ∷ vs) d e (suc i) h = each-at P vs d (e .1) i (omega arith)
 
-each-holds : {A : Type 0} (P Q : A → Type 0) → ((v : A) → P v → Q v) → (vs : List A) → Each P vs → Each Q vs
+pub each-holds : {A : Type 0} (P Q : A → Type 0) → ((v : A) → P v → Q v) → (vs : List A) → Each P vs → Each Q vs
 each-holds P Q h [] e = tt
 each-holds P Q h (v ∷ vs) e = (h v (e .0), each-holds P Q h vs (e .1))
 
@@ -172,6 +172,32 @@ ternary-small f x e = go (same f (48 ∷ [])) (same f (49 ∷ [])) (same f (45 �
 
 pub ternary-each : (w : List ℕ) (n : ℕ) (line vs : List ℕ) → recordOf readTernary w n line ≡ some vs → (length vs ≡ n) × Each (λ x. x ≤ 2) vs
 ternary-each w n line vs e = record-each readTernary (λ x. x ≤ 2) ternary-small w n line vs e
+
+-- and each of these is read from its field
+read-ternary : (x : ℕ) → x ≤ 2 → readTernary (ternaryNumeral x) ≡ some x
+unfolding readTernary ternaryNumeral same
+read-ternary zero h = refl
+read-ternary (suc zero) h = refl
+read-ternary (suc (suc zero)) h = refl
+read-ternary (suc (suc (suc x))) h = absurd (omega arith)
+
+-- which has no byte below the minus
+pub ternary-lacks : (b x : ℕ) → b < 45 → lacks b (ternaryNumeral x) ≡ true
+unfolding ternaryNumeral lacks
+ternary-lacks b x h = go (eqb x 0) (eqb x 1)
+  where
+    other : (y : ℕ) → 45 ≤ y → eqb y b ≡ false
+    other y l = ne-eqb y b (λ e. omega (arith, e))
+
+    go : (u v : Bool) → lacks b (cond u (48 ∷ []) (cond v (49 ∷ []) (45 ∷ 49 ∷ []))) ≡ true
+    go true v = rw (other 48 (omega arith))
+    go false true = rw (other 49 (omega arith))
+    go false false = rw (other 45 (omega arith), other 49 (omega arith))
+
+pub ternaries-back : (w vs : List ℕ) → lacks 9 w ≡ true → Each (λ x. x ≤ 2) vs → recordOf readTernary w (length vs) (joined (w ∷ map ternaryNumeral vs)) ≡ some vs
+ternaries-back w vs t h = record-back readTernary ternaryNumeral w vs t
+    (each-holds (λ x. x ≤ 2) (λ v. lacks 9 (ternaryNumeral v) ≡ true) (λ v l. ternary-lacks 9 v (omega arith)) vs h)
+    (each-holds (λ x. x ≤ 2) (λ v. readTernary (ternaryNumeral v) ≡ some v) read-ternary vs h)
 
 -- unsigned numbers
 read-decimal : (n : ℕ) → n < 2 ^ 64 → readU64 (decimal n) ≡ some n

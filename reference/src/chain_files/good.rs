@@ -1,7 +1,7 @@
 //! Small chains that run to their end.
 
-use super::parts::{file_of, first_lines};
-use super::ChainFile;
+use super::parts::first_lines;
+use crate::stored::{file_of, StoredFile};
 
 /// Small chains of a few lines, as text.
 const SMALL: [(&str, &str); 7] = [
@@ -36,9 +36,9 @@ fn longest_good_line() -> Vec<u8> {
 }
 
 /// All files of this subject.
-pub fn files() -> Vec<ChainFile> {
-    let mut files: Vec<ChainFile> = SMALL.iter().map(|(name, text)| ChainFile::new(*name, *text)).collect();
-    files.push(ChainFile::new("small_chain_two_folds", first_lines(7)));
-    files.push(ChainFile::new("longest_good_line", longest_good_line()));
+pub fn files() -> Vec<StoredFile> {
+    let mut files: Vec<StoredFile> = SMALL.iter().map(|(name, text)| StoredFile::new(*name, *text)).collect();
+    files.push(StoredFile::new("small_chain_two_folds", first_lines(7)));
+    files.push(StoredFile::new("longest_good_line", longest_good_line()));
     files
 }

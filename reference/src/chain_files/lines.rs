@@ -1,7 +1,7 @@
 //! Lines with a wrong word, a wrong number of fields or bytes that do not belong there.
 
 use super::parts::{lines_of, with_field, with_line, BASE};
-use super::ChainFile;
+use crate::stored::StoredFile;
 
 /// Names with a line of the small chain and the word put there.
 const WORDS: [(&str, usize, &str); 7] = [
@@ -15,10 +15,10 @@ const WORDS: [(&str, usize, &str); 7] = [
 ];
 
 /// A change of a line.
-type Change = fn(&str) -> Vec<u8>;
+pub(crate) type Change = fn(&str) -> Vec<u8>;
 
 /// Changes that make any line bad, with the kinds in which they are tried.
-const CHANGES: [(&str, Change, &[&str]); 10] = [
+pub(crate) const CHANGES: [(&str, Change, &[&str]); 10] = [
     ("word_alone", |line| line.split('\t').next().unwrap_or("").into(), &["param", "a", "leaf", "c"]),
     ("field_missing", |line| line.rsplit_once('\t').map_or(line, |(rest, _)| rest).into(), &["param", "a", "leaf", "c"]),
     ("field_too_many", |line| format!("{line}\t1").into(), &["param", "a", "leaf", "c"]),
@@ -32,16 +32,16 @@ const CHANGES: [(&str, Change, &[&str]); 10] = [
 ];
 
 /// All files of this subject; the place of a change goes round the lines of a kind.
-pub fn files() -> Vec<ChainFile> {
-    let word = |(name, line, text): &(&str, usize, &str)| ChainFile::new(*name, with_field(*line, 0, text));
-    let mut files: Vec<ChainFile> = WORDS.iter().map(word).collect();
+pub fn files() -> Vec<StoredFile> {
+    let word = |(name, line, text): &(&str, usize, &str)| StoredFile::new(*name, with_field(*line, 0, text));
+    let mut files: Vec<StoredFile> = WORDS.iter().map(word).collect();
     for (i, (label, change, kinds)) in CHANGES.iter().enumerate() {
         for kind in *kinds {
             let line = lines_of(kind)[i % lines_of(kind).len()];
-            files.push(ChainFile::new(format!("{kind}_{label}_13"), with_line(line, change(BASE[line - 1]))));
+            files.push(StoredFile::new(format!("{kind}_{label}_13"), with_line(line, change(BASE[line - 1]))));
         }
     }
     let marked = [&[0xef, 0xbb, 0xbf], BASE[0].as_bytes()].concat();
-    files.push(ChainFile::new("byte_order_mark_13", with_line(1, marked)));
+    files.push(StoredFile::new("byte_order_mark_13", with_line(1, marked)));
     files
 }

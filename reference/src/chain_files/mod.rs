@@ -1,38 +1,15 @@
-//! Stored chain files: inputs of the chain program, each with the output that it must give.
-//!
-//! A name tells what the file is for. A name that ends in a number says that the run
-//! ends with this refusal; the tests hold every such name against the output.
+//! Stored chain files: inputs of the chain program.
 
 mod good;
-mod lines;
-mod numerals;
+pub(crate) mod lines;
+pub(crate) mod numerals;
 mod order;
-mod params;
+pub(crate) mod params;
 mod parts;
 mod random;
 mod witnesses;
 
-use crate::chain::run;
-
-/// One stored chain file.
-#[derive(Clone, Debug, PartialEq, Eq)]
-pub struct ChainFile {
-    pub name: String,
-    pub input: Vec<u8>,
-}
-
-impl ChainFile {
-    /// A file from its name and its bytes.
-    fn new(name: impl Into<String>, input: impl Into<Vec<u8>>) -> ChainFile {
-        ChainFile { name: name.into(), input: input.into() }
-    }
-}
-
-/// A subject with its files.
-pub struct Subject {
-    pub title: &'static str,
-    pub files: Vec<ChainFile>,
-}
+use crate::stored::{in_order, StoredFile, Subject};
 
 /// All subjects in the order in which their files are run.
 pub fn subjects() -> Vec<Subject> {
@@ -54,17 +31,6 @@ pub fn subjects() -> Vec<Subject> {
 }
 
 /// All files in the order in which they are run.
-pub fn all() -> Vec<ChainFile> {
-    subjects().into_iter().flat_map(|subject| subject.files).collect()
-}
-
-/// The names, one a line.
-pub fn args(files: &[ChainFile]) -> Vec<u8> {
-    files.iter().flat_map(|file| format!("{}\n", file.name).into_bytes()).collect()
-}
-
-/// What running all files prints: for each a line with its name, then the output of its run.
-pub fn stdout(files: &[ChainFile]) -> Vec<u8> {
-    let section = |file: &ChainFile| [format!("== {}\n", file.name).into_bytes(), run(&file.input)].concat();
-    files.iter().flat_map(section).collect()
+pub fn all() -> Vec<StoredFile> {
+    in_order(subjects())
 }

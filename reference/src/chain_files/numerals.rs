@@ -1,10 +1,10 @@
 //! Numbers that are not written as they must be, and numbers at the borders of their types.
 
 use super::parts::{fields_in, lines_of, with_field};
-use super::ChainFile;
+use crate::stored::StoredFile;
 
 /// Texts that are no number in any kind of line, with the kinds in which they are tried.
-const NEVER_NUMBERS: [(&str, &str, &[&str]); 11] = [
+pub(crate) const NEVER_NUMBERS: [(&str, &str, &[&str]); 11] = [
     ("plus_one", "+1", &["param", "leaf", "c"]),
     ("leading_zero", "01", &["a", "leaf", "c"]),
     ("minus_zero", "-0", &["a", "leaf", "c"]),
@@ -45,19 +45,19 @@ fn at_place(i: usize, kind: &str, text: &str) -> Vec<u8> {
 }
 
 /// All files of this subject.
-pub fn files() -> Vec<ChainFile> {
+pub fn files() -> Vec<StoredFile> {
     let mut files = Vec::new();
     for (i, (label, text, kinds)) in NEVER_NUMBERS.iter().enumerate() {
         for kind in *kinds {
-            files.push(ChainFile::new(format!("{kind}_{label}_13"), at_place(i, kind, text)));
+            files.push(StoredFile::new(format!("{kind}_{label}_13"), at_place(i, kind, text)));
         }
     }
     let digits = format!("1{}", "0".repeat(999));
     for (i, kind) in ["param", "a", "leaf", "c"].iter().enumerate() {
-        files.push(ChainFile::new(format!("{kind}_thousand_digits_13"), at_place(i, kind, &digits)));
+        files.push(StoredFile::new(format!("{kind}_thousand_digits_13"), at_place(i, kind, &digits)));
     }
     for (name, line, field, text) in BORDERS {
-        files.push(ChainFile::new(name, with_field(line, field, text)));
+        files.push(StoredFile::new(name, with_field(line, field, text)));
     }
     files
 }

@@ -1,7 +1,7 @@
 //! Missing lines, lines that are not due, a last line without its line feed, and long lines.
 
-use super::parts::{file_of, first_lines, with_further_line, with_line, without_line, BASE};
-use super::ChainFile;
+use super::parts::{first_lines, with_further_line, with_line, without_line, BASE};
+use crate::stored::{file_of, stretched, StoredFile};
 
 /// Names with the number of a further line in the small chain and its text.
 const FURTHER: [(&str, usize, &str); 11] = [
@@ -32,13 +32,13 @@ const LEFT_OUT: [(&str, usize); 3] =
     [("param_left_out_13", 1), ("a_left_out_13", 2), ("c_left_out_13", 5)];
 
 /// Missing lines and lines that are not due.
-pub fn missing_and_extra() -> Vec<ChainFile> {
-    let mut files = vec![ChainFile::new("only_a_line_feed_13", "\n")];
-    files.extend(CUT.iter().map(|(name, count)| ChainFile::new(*name, first_lines(*count))));
-    files.extend(LEFT_OUT.iter().map(|(name, number)| ChainFile::new(*name, without_line(*number))));
-    files.extend(FURTHER.iter().map(|(name, number, line)| ChainFile::new(*name, with_further_line(*number, line))));
+pub fn missing_and_extra() -> Vec<StoredFile> {
+    let mut files = vec![StoredFile::new("only_a_line_feed_13", "\n")];
+    files.extend(CUT.iter().map(|(name, count)| StoredFile::new(*name, first_lines(*count))));
+    files.extend(LEFT_OUT.iter().map(|(name, number)| StoredFile::new(*name, without_line(*number))));
+    files.extend(FURTHER.iter().map(|(name, number, line)| StoredFile::new(*name, with_further_line(*number, line))));
     // The run stops at the first bad line.
-    files.push(ChainFile::new("two_bad_lines_13", [first_lines(3), file_of(&["x", "leaf\t100\t100"])].concat()));
+    files.push(StoredFile::new("two_bad_lines_13", [first_lines(3), file_of(&["x", "leaf\t100\t100"])].concat()));
     files
 }
 
@@ -56,33 +56,26 @@ const UNTERMINATED: [(&str, usize, &str); 9] = [
 ];
 
 /// A last line without its line feed.
-pub fn unterminated() -> Vec<ChainFile> {
+pub fn unterminated() -> Vec<StoredFile> {
     let unended = |(name, count, rest): &(&str, usize, &str)| {
-        ChainFile::new(*name, [first_lines(*count), rest.as_bytes().to_vec()].concat())
+        StoredFile::new(*name, [first_lines(*count), rest.as_bytes().to_vec()].concat())
     };
     UNTERMINATED.iter().map(unended).collect()
 }
 
-/// A line that starts like the given one and goes on with fields `1` up to this many bytes, line feed included.
-fn stretched(line: &str, length: usize) -> String {
-    let odd = if (length - 1 - line.len()).is_multiple_of(2) { "" } else { "1" };
-    let pairs = (length - 1 - line.len()) / 2;
-    format!("{line}{odd}{}", "\t1".repeat(pairs))
-}
-
 /// Long lines: all of them are bad, as the longest good one has 2690 bytes.
-pub fn lengths() -> Vec<ChainFile> {
+pub fn lengths() -> Vec<StoredFile> {
     let mut files = Vec::new();
     for (kind, number, length) in [("a", 2, 4095), ("leaf", 4, 4096), ("c", 5, 4096), ("c", 5, 4097), ("c", 7, 10000)] {
         let input = with_line(number, stretched(BASE[number - 1], length));
-        files.push(ChainFile::new(format!("{kind}_line_of_{length}_bytes_13"), input));
+        files.push(StoredFile::new(format!("{kind}_line_of_{length}_bytes_13"), input));
     }
     let letters = [vec![b'x'; 10000], b"\n".to_vec(), first_lines(7)].concat();
-    files.push(ChainFile::new("first_line_of_10001_bytes_13", letters));
+    files.push(StoredFile::new("first_line_of_10001_bytes_13", letters));
     for length in [4095, 4096] {
         let rest = stretched(BASE[5], length + 1).into_bytes();
         let input = [first_lines(5), rest].concat();
-        files.push(ChainFile::new(format!("no_last_line_feed_{length}_bytes_13"), input));
+        files.push(StoredFile::new(format!("no_last_line_feed_{length}_bytes_13"), input));
     }
     files
 }

@@ -1,9 +1,9 @@
 //! Refusals of the first line.
 
-use super::ChainFile;
+use crate::stored::StoredFile;
 
 /// Names with the five fields of a refused first line; what follows it would be good at setting 1.
-const REFUSED: [(&str, &str); 21] = [
+pub(crate) const REFUSED: [(&str, &str); 21] = [
     ("param_n_zero_1", "0\t1\t1\t2\t100"),
     ("param_n_65_1", "65\t1\t1\t2\t100"),
     ("param_n_two_64_less_one_1", "18446744073709551615\t1\t1\t2\t100"),
@@ -28,7 +28,7 @@ const REFUSED: [(&str, &str); 21] = [
 ];
 
 /// All files of this subject.
-pub fn files() -> Vec<ChainFile> {
-    let refused = |(name, fields): &(&str, &str)| ChainFile::new(*name, format!("param\t{fields}\na\t3\nleaf\t7\n"));
+pub fn files() -> Vec<StoredFile> {
+    let refused = |(name, fields): &(&str, &str)| StoredFile::new(*name, format!("param\t{fields}\na\t3\nleaf\t7\n"));
     REFUSED.iter().map(refused).collect()
 }

@@ -1,5 +1,7 @@
 //! A small good chain, and the same chain with one line changed.
 
+use crate::stored::file_of;
+
 /// A good chain with two folds at n = 2, m = 2, t = 1, b = 3, B = 72: k = 3, N = 6, growth just holds.
 ///
 /// It prints, with 2^64 − 12 = 18446744073709551604 and so on:
@@ -18,11 +20,6 @@ pub const BASE: [&str; 7] = [
 /// The numbers of the lines of the small chain that have this word.
 pub fn lines_of(kind: &str) -> Vec<usize> {
     (1..=BASE.len()).filter(|number| BASE[number - 1].split('\t').next() == Some(kind)).collect()
-}
-
-/// Lines as a file: a line feed after each.
-pub fn file_of<T: AsRef<[u8]>>(lines: &[T]) -> Vec<u8> {
-    lines.iter().flat_map(|line| [line.as_ref(), b"\n"].concat()).collect()
 }
 
 /// The first lines of the small chain.

@@ -1,9 +1,9 @@
 //! Random chains: whole ones, ones that are refused late, and ones with one damaged byte.
 
-use super::parts::{file_of, line_of};
-use super::ChainFile;
+use super::parts::line_of;
 use crate::rng::Rng;
 use crate::settings::{Parameters, LIST};
+use crate::stored::{file_of, StoredFile};
 
 /// The seed of all random chains; each group of files adds its own number.
 const SEED: u64 = 20260201;
@@ -137,16 +137,16 @@ fn chain(rng: &mut Rng, p: &Parameters, folds: usize, shape: Option<Shape>) -> V
 }
 
 /// Long random chains.
-pub fn long_chains() -> Vec<ChainFile> {
+pub fn long_chains() -> Vec<StoredFile> {
     let mut rng = Rng::new(SEED + 1);
     let file = |(name, p, folds): &(&str, Parameters, usize)| {
-        ChainFile::new(*name, file_of(&chain(&mut rng, p, *folds, None)))
+        StoredFile::new(*name, file_of(&chain(&mut rng, p, *folds, None)))
     };
     LONG.iter().map(file).collect()
 }
 
 /// Short random chains at the largest shape, all challenges of one shape.
-pub fn shaped_chains() -> Vec<ChainFile> {
+pub fn shaped_chains() -> Vec<StoredFile> {
     let mut rng = Rng::new(SEED + 2);
     let shapes = [
         ("zeros", Shape::Zeros),
@@ -156,13 +156,13 @@ pub fn shaped_chains() -> Vec<ChainFile> {
     ];
     let file = |(label, shape): &(&str, Shape)| {
         let lines = chain(&mut rng, &setting(8, 16, 2, 3, 4782968), 6, Some(*shape));
-        ChainFile::new(format!("random_all_challenges_{label}"), file_of(&lines))
+        StoredFile::new(format!("random_all_challenges_{label}"), file_of(&lines))
     };
     shapes.iter().map(file).collect()
 }
 
 /// Random chains that are refused after many folds; good lines follow the bad one.
-pub fn refused_late() -> Vec<ChainFile> {
+pub fn refused_late() -> Vec<StoredFile> {
     let mut rng = Rng::new(SEED + 3);
     // The leaf after fold f stands in line 4 + 2f, the challenge of fold f in line 3 + 2f.
     let places = [
@@ -174,7 +174,7 @@ pub fn refused_late() -> Vec<ChainFile> {
     let file = |(name, p, number, line): &(&str, Parameters, usize, &str)| {
         let mut lines = chain(&mut rng, p, 60, None);
         lines[number - 1] = line.to_string();
-        ChainFile::new(*name, file_of(&lines))
+        StoredFile::new(*name, file_of(&lines))
     };
     places.iter().map(file).collect()
 }
@@ -204,7 +204,7 @@ fn damage_digit(rng: &mut Rng, input: &mut [u8]) {
 }
 
 /// Short random chains with one damaged byte: any byte in those from a to j, a digit in those from k to t.
-pub fn damaged_chains() -> Vec<ChainFile> {
+pub fn damaged_chains() -> Vec<StoredFile> {
     let mut rng = Rng::new(SEED + 4);
     let settings = [LIST[0], setting(2, 2, 1, 3, 72), LIST[1], setting(1, 1, 2, 3, 300)];
     let mut file = |(i, letter): (usize, char)| {
@@ -214,7 +214,7 @@ pub fn damaged_chains() -> Vec<ChainFile> {
         } else {
             damage_digit(&mut rng, &mut input);
         }
-        ChainFile::new(format!("random_damaged_{letter}"), input)
+        StoredFile::new(format!("random_damaged_{letter}"), input)
     };
     ('a'..='t').enumerate().map(&mut file).collect()
 }

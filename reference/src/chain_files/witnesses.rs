@@ -1,7 +1,7 @@
 //! Witnesses that are too long, and what comes before that.
 
-use super::parts::{file_of, first_lines, with_line};
-use super::ChainFile;
+use super::parts::{first_lines, with_line};
+use crate::stored::{file_of, StoredFile};
 
 /// Names with a line of the small chain, B = 72, and the witness put there.
 const REPLACED: [(&str, usize, &str); 8] = [
@@ -26,26 +26,27 @@ fn at_setting_2(entries: &[(usize, &str)]) -> Vec<u8> {
 }
 
 /// Leaves at setting 2, where the column is the last factor of a place.
-fn several_columns() -> Vec<ChainFile> {
+fn several_columns() -> Vec<StoredFile> {
     // Row 3 of column 1 with 1024² = B, alone and with a further 1 in row 15.
     let full = (7, "-1024");
     // Four squares of 2^63 make 2^128.
     let ends = [0, 8, 16, 30].map(|place| (place, "-9223372036854775808"));
     vec![
-        ChainFile::new("leaf_second_column_at_the_border", at_setting_2(&[full])),
-        ChainFile::new("leaf_second_column_too_long_by_one_8", at_setting_2(&[full, (31, "1")])),
-        ChainFile::new("leaf_both_columns_at_the_border", at_setting_2(&[full, (30, "1024")])),
-        ChainFile::new("leaf_squares_wrap_128_bits_8", at_setting_2(&ends)),
+        StoredFile::new("leaf_second_column_at_the_border", at_setting_2(&[full])),
+        StoredFile::new("leaf_second_column_too_long_by_one_8", at_setting_2(&[full, (31, "1")])),
+        StoredFile::new("leaf_both_columns_at_the_border", at_setting_2(&[full, (30, "1024")])),
+        StoredFile::new("leaf_squares_wrap_128_bits_8", at_setting_2(&ends)),
     ]
 }
 
 /// All files of this subject.
-pub fn files() -> Vec<ChainFile> {
-    let replaced = |(name, line, text): &(&str, usize, &str)| ChainFile::new(*name, with_line(*line, text));
-    let mut files: Vec<ChainFile> = REPLACED.iter().map(replaced).collect();
+pub fn files() -> Vec<StoredFile> {
+    let replaced = |(name, line, text): &(&str, usize, &str)| StoredFile::new(*name, with_line(*line, text));
+    let mut files: Vec<StoredFile> = REPLACED.iter().map(replaced).collect();
     let long = b"leaf\t7\t7\n".to_vec();
-    files.push(ChainFile::new("leaf_too_long_before_a_bad_c_8", [first_lines(3), long.clone(), b"c\t2\n".to_vec()].concat()));
-    files.push(ChainFile::new("leaf_too_long_and_c_missing_8", [first_lines(3), long].concat()));
+    let before_a_bad_c = [first_lines(3), long.clone(), b"c\t2\n".to_vec()].concat();
+    files.push(StoredFile::new("leaf_too_long_before_a_bad_c_8", before_a_bad_c));
+    files.push(StoredFile::new("leaf_too_long_and_c_missing_8", [first_lines(3), long].concat()));
     files.extend(several_columns());
     files
 }

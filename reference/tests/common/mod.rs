@@ -4,6 +4,7 @@
 use reference::operations::Instance;
 use reference::rng::Rng;
 use reference::settings::{refusal, Parameters};
+use reference::stored::StoredFile;
 use reference::tree::{Node, Tree};
 
 /// A setting from its five numbers.
@@ -132,4 +133,23 @@ pub fn by_entries(p: &Parameters, left: &Node, right: &Node, v: &[i64], tt: &[u6
         }
     }
     "yes"
+}
+
+/// The last line of an output.
+pub fn last_line(text: &str) -> &str {
+    text.strip_suffix('\n').unwrap().rsplit('\n').next().unwrap()
+}
+
+/// The refusal that the name of a stored file ends with.
+pub fn named_refusal(name: &str) -> Option<u32> {
+    name.rsplit('_').next().and_then(|word| word.parse().ok())
+}
+
+/// Whether the names of stored files are short, of small letters, digits and _ alone, and no two are the same.
+pub fn plain_names(files: &[StoredFile]) -> bool {
+    let mut names: Vec<&str> = files.iter().map(|file| file.name.as_str()).collect();
+    let plain = |byte: u8| byte.is_ascii_lowercase() || byte.is_ascii_digit() || byte == b'_';
+    names.sort();
+    names.iter().all(|name| !name.is_empty() && name.len() <= 60 && name.bytes().all(plain))
+        && names.windows(2).all(|pair| pair[0] != pair[1])
 }

@@ -1,16 +1,14 @@
--- `main` meets its contract: the buffer for a name keeps its length.
-use mathlib.Core.Path.{_≡_}
-use Prim.Native.Nat.{_-_}
-use lib.ListN.{length}
+-- `main` meets its contract: it goes through its arguments.
 use borrow.Author.Needs.{needs}
+use Prim.Native.Nat.{_-_}
 use Rattle.chains.proofs.main.Statement.{statement}
 use Rattle.chains.proofs.main.Tie as tie
 
 abbrev Inv-loop : tie.InvT-loop
-Inv-loop name₀ count i₀ name i = length name ≡ 64
+Inv-loop count i₀ i = Unit {0}
 
 abbrev μ-loop : tie.MeasureT-loop
-μ-loop name₀ count i₀ name i = count - i
+μ-loop count i₀ i = count - i
 
 arg-count-requires : tie.Need-arg-count-requires Inv-loop μ-loop
 arg-count-requires c κs = search needs
@@ -18,20 +16,14 @@ arg-count-requires c κs = search needs
 loop-holds : tie.Need-loop-holds Inv-loop μ-loop
 loop-holds c = search needs
 
-slice-aggregate-arg : tie.Need-slice-aggregate-arg Inv-loop μ-loop
-slice-aggregate-arg c = search needs
+open-requires : tie.Need-open-requires Inv-loop μ-loop
+open-requires c κs = search needs
 
-arg-requires : tie.Need-arg-requires Inv-loop μ-loop
-arg-requires c κs = search needs
+run-requires : tie.Need-run-requires Inv-loop μ-loop
+run-requires c κs = search needs
 
-array-share-prefix-name : tie.Need-array-share-prefix-name Inv-loop μ-loop
-array-share-prefix-name c = search needs
-
-slice-aggregate-run-file : tie.Need-slice-aggregate-run-file Inv-loop μ-loop
-slice-aggregate-run-file c = search needs
-
-run-file-requires : tie.Need-run-file-requires Inv-loop μ-loop
-run-file-requires c κs = search needs
+close-requires : tie.Need-close-requires Inv-loop μ-loop
+close-requires c κs = search needs
 
 add-i : tie.Need-add-i Inv-loop μ-loop
 add-i c = search needs
@@ -53,11 +45,9 @@ main-spec =
     μ-loop
     arg-count-requires
     loop-holds
-    slice-aggregate-arg
-    arg-requires
-    array-share-prefix-name
-    slice-aggregate-run-file
-    run-file-requires
+    open-requires
+    run-requires
+    close-requires
     add-i
     loop-less
     loop-again

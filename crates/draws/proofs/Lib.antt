@@ -1,0 +1,2 @@
+pub mod Radius
+pub mod Fills

@@ -1,0 +1,13 @@
+pub mod Stopping
+pub mod Settings
+pub mod Drawn
+pub mod Lines
+pub mod Inputs
+pub mod CutLines
+pub mod Taking
+pub mod Asking
+pub mod Deciding
+pub mod Printing
+pub mod Piping
+pub mod Examples
+pub mod Theorems
