@@ -17,6 +17,10 @@ static int64_t d1[16 * 16], d2[16 * 16], v[16 * 16], d_out[16 * 16], joined_d[32
 static uint8_t c[512 * 16];
 static uint32_t leaves1, leaves2, leaves_out;
 
+static const uint64_t weights[8] = {16, 16, 16, 16, 16, 16, 16, 16};
+static uint32_t waiting[8];
+static uint64_t turn[2];
+
 static uint64_t n, m, t, b, bound, columns, fresh_columns;
 static uint8_t code;
 
@@ -25,6 +29,7 @@ static size_t triangle(size_t rows) { return rows * (rows + 1) / 2; }
 
 static void setting(void) { code = lova_setting(n, m, t, b, bound, out, 35); }
 static void listed(void) { code = lova_listed(4, out, 5); }
+static void next_fold(void) { code = lova_next_fold(weights, 8, waiting, 8, turn, 2); }
 static void commit(void) { code = lova_commit(n, m, t, b, bound, a, n * m, s1, m * t, t1, n * t, d1, t * t, &leaves1); }
 
 static void message(void)
@@ -104,6 +109,7 @@ static const struct {
 } calls[] = {
     {"setting", setting, LOVA_SETTING_STACK},
     {"listed", listed, LOVA_LISTED_STACK},
+    {"next_fold", next_fold, LOVA_NEXT_FOLD_STACK},
     {"commit", commit, LOVA_COMMIT_STACK},
     {"message", message, LOVA_MESSAGE_STACK},
     {"fold_witness", fold_witness, LOVA_FOLD_WITNESS_STACK},
@@ -137,7 +143,8 @@ static size_t taken(void (*call)(void))
     return sizeof stack - low;
 }
 
-/* A setting, witnesses of -1, 0 and 1 that are each other's negatives, and a challenge. */
+/* A setting, witnesses of -1, 0 and 1 that are each other's negatives, a challenge, and a turn that is over and whose
+ * group alone waits. */
 static void fill(const uint64_t p[5])
 {
     n = p[0], m = p[1], t = p[2], b = p[3], bound = p[4];
@@ -152,6 +159,7 @@ static void fill(const uint64_t p[5])
     }
     for (size_t i = 0; i < columns * t; i++)
         c[i] = i % 3;
+    waiting[0] = 1, turn[0] = 1, turn[1] = weights[0];
     lova_commit(n, m, t, b, bound, a, n * m, s2, m * t, t2, n * t, d2, t * t, &leaves2);
 }
 

@@ -1,7 +1,8 @@
 /* Lova folding at q = 2^64, proved: the functions of liblova.a (`bindings/archive` builds it).
  *
- * A setting is its five numbers n, m, t, b, bound. A slice is two arguments: a pointer to its first element, then how many
- * elements it has. Matrices are stored by rows. With N = 2kt (k is what lova_setting writes first) the lengths are
+ * A setting is its five numbers n, m, t, b, bound; lova_listed and lova_next_fold have none. A slice is two arguments:
+ * a pointer to its first element, then how many elements it has. Matrices are stored by rows. With N = 2kt (k is what
+ * lova_setting writes first) the lengths are
  *
  *   A  n m      S  m t      T  n t      D  t t      V  t t      C  N t
  *   S~ m N      T~ n N      D~ N (N + 1) / 2        joined T  n 2t          joined D  2t 2t
@@ -22,11 +23,18 @@
  * An instance is its T and D and the number of leaves under it, at most 2^32 - 1. That count is lent as a number, leaves1 or
  * leaves2, and handed back in *leaves_out: 1 by lova_commit, and the sum of both by lova_join and by a yes of lova_verify.
  *
- * Each function returns a code of `enum lova_code`. Of the refusals the first that applies is given, in the order that each
- * function names. A refusal leaves every output as it was. LOVA_LONG, LOVA_NORM and LOVA_COMMITMENT of the verdict leave T
- * and D as they were and set *leaves_out to 0, a count that no call takes. There is no call that is not allowed, as long as
- * each pointer is aligned, is not null and has as many elements behind it as its length says (leaves_out one), and no output
- * overlaps anything else that is lent to the same call.
+ * Eight groups, with the numbers 1 to 8, take turns on the machine by weights from 1 to 16, and lova_next_fold names
+ * the one whose fold is next. A turn is its group and the folds used in it. It ends at its weight or when its group has
+ * none waiting, which is judged by the counts of the next call, and passes to the next waiting group: upwards, after 8
+ * from 1 on, its own group last. While the weights stay and each call gets the turn that the last one wrote, a group
+ * that keeps waiting sees at most the sum of the others' weights served before it, whatever arrives between the calls.
+ * The first turn may be any that is not refused: used folds 0 if it has not begun, its weight if it is over.
+ *
+ * Each function returns a code of `enum lova_code`. Of the refusals the first that applies is given, in the order that
+ * each function names. A refusal leaves every output as it was, and so does LOVA_NONE. LOVA_LONG, LOVA_NORM and
+ * LOVA_COMMITMENT of the verdict leave T and D as they were and set *leaves_out to 0, a count that no call takes. There
+ * is no call that is not allowed, as long as each pointer is aligned, is not null and has as many elements behind it as
+ * its length says (leaves_out one), and no output overlaps anything else that is lent to the same call.
  *
  * The archive is for x86-64 and the System V calling convention. Nothing is allocated, and nothing is kept between calls:
  * any number of threads may call at once, as long as what one call writes is lent to no other at the time. A call takes no
@@ -43,7 +51,7 @@ extern "C" {
 #endif
 
 enum lova_code {
-    LOVA_DONE = 0,           /* done; verify: yes; test_relation: member */
+    LOVA_DONE = 0,           /* done; verify: yes; test_relation: member; next_fold: a group is named */
 
     /* refusals */
     LOVA_SHAPE = 1,          /* n, m or t out of range */
@@ -60,13 +68,15 @@ enum lova_code {
     LOVA_UNLISTED = 12,      /* a number outside 1..4 asked of the house list */
     LOVA_LEAVES = 15,        /* leaves1 or leaves2 is 0, or their sum is above 2^32 - 1 */
     LOVA_OTHER_DIGITS = 16,  /* S~ has digits other than those of the digit rule */
+    LOVA_TURN = 20,          /* a weight outside 1..16, a turn's group outside 1..8, or used folds above its weight */
 
-    /* words of the verdict and of the relation test */
+    /* words of the verdict, of the relation test and of the turns */
     LOVA_NORM = 100,         /* verify: the first equation, of the products, fails, and no diagonal entry is long */
     LOVA_COMMITMENT = 101,   /* verify: the second equation alone fails; test_relation: A S is not T */
     LOVA_LONG = 102,         /* verify: a diagonal entry of D1 or D2 is above bound; test_relation: a column of S has a
                                 squared length above bound */
-    LOVA_PRODUCTS = 103      /* test_relation: S-transposed S is not D */
+    LOVA_PRODUCTS = 103,     /* test_relation: S-transposed S is not D */
+    LOVA_NONE = 104          /* next_fold: nobody waits */
 };
 
 /* The stack that a call of each function takes at most, in bytes: measured at the largest setting and rounded up to whole
@@ -86,7 +96,8 @@ enum lova_stack {
     LOVA_JOIN_FRESH_STACK = 4096,
     LOVA_VERIFY_FRESH_STACK = 24576,
     LOVA_SETTING_STACK = 4096,
-    LOVA_LISTED_STACK = 4096
+    LOVA_LISTED_STACK = 4096,
+    LOVA_NEXT_FOLD_STACK = 4096
 };
 
 /* T = A S modulo 2^64, D = S-transposed S and one leaf. Refusals 1 to 6, 7, 8. */
@@ -176,6 +187,12 @@ uint8_t lova_setting(uint64_t n, uint64_t m, uint64_t t, uint64_t b, uint64_t bo
 
 /* A row of the house list, 1 to 4: writes n, m, t, b and bound, 5 places. Refusals 12, 7. */
 uint8_t lova_listed(uint64_t number, uint64_t *out, size_t out_len);
+
+/* The group of the next fold, by the weights and the waiting folds of the groups, 8 places each, and the turn, 2
+ * places: its group and the folds used. Writes the new turn, whose group is the one named, with this fold counted, and
+ * the waiting counts, one less for that group; LOVA_NONE where nobody waits. Refusals 7, 20. */
+uint8_t lova_next_fold(const uint64_t *weights, size_t weights_len, uint32_t *waiting, size_t waiting_len,
+                       uint64_t *turn, size_t turn_len);
 
 #ifdef __cplusplus
 }

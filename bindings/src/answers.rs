@@ -39,10 +39,12 @@ pub enum Refusal {
     Leaves = 15,
     /// S~ has digits other than those of the digit rule.
     OtherDigits = 16,
+    /// A weight is outside 1..16, the turn's group is outside 1..8, or its used folds are above its weight.
+    Turn = 20,
 }
 
 /// All refusals, in the order of their numbers.
-const REFUSALS: [Refusal; 14] = [
+const REFUSALS: [Refusal; 15] = [
     Refusal::Shape,
     Refusal::Base,
     Refusal::Bound,
@@ -57,6 +59,7 @@ const REFUSALS: [Refusal; 14] = [
     Refusal::Unlisted,
     Refusal::Leaves,
     Refusal::OtherDigits,
+    Refusal::Turn,
 ];
 
 impl Refusal {
@@ -82,6 +85,7 @@ impl Refusal {
             Refusal::Unlisted => "the house list has the numbers 1 to 4",
             Refusal::Leaves => "an instance has 0 leaves, or both have more than 2^32 − 1 together",
             Refusal::OtherDigits => "S~ has digits other than those of the digit rule",
+            Refusal::Turn => "a weight, the turn's group or its used folds are out of range",
         }
     }
 }
@@ -168,6 +172,15 @@ pub(crate) fn membership(code: u8) -> Result<Membership, Refusal> {
     }
 }
 
+/// Whether this code says that a group was named; without one nobody waits.
+pub(crate) fn named(code: u8) -> Result<bool, Refusal> {
+    match code {
+        0 => Ok(true),
+        104 => Ok(false),
+        _ => Err(refusal(code)),
+    }
+}
+
 #[cfg(test)]
 mod tests {
     use super::*;
@@ -180,11 +193,12 @@ mod tests {
     #[test]
     fn every_refusal_has_its_own_code() {
         let numbers: Vec<u8> = REFUSALS.into_iter().map(Refusal::number).collect();
-        assert_eq!(numbers, [1, 2, 3, 4, 5, 6, 7, 8, 9, 10, 11, 12, 15, 16]);
+        assert_eq!(numbers, [1, 2, 3, 4, 5, 6, 7, 8, 9, 10, 11, 12, 15, 16, 20]);
         for refused in REFUSALS {
             assert_eq!(answer(refused.number()), Err(refused));
             assert_eq!(verdict(refused.number()), Err(refused));
             assert_eq!(membership(refused.number()), Err(refused));
+            assert_eq!(named(refused.number()), Err(refused));
         }
     }
 
@@ -210,6 +224,7 @@ mod tests {
         for word in [Membership::Long, Membership::Products, Membership::Commitment] {
             assert_eq!(membership(code(&format!("{word:?}"))), Ok(word));
         }
+        assert_eq!((named(code("Done")), named(code("None"))), (Ok(true), Ok(false)));
     }
 
     /// Whether a code has no meaning here.
@@ -219,11 +234,13 @@ mod tests {
 
     #[test]
     fn codes_without_a_meaning_are_not_taken_for_one() {
-        for code in [13, 14, 17, 99, 104, 255] {
-            assert!(fails(answer, code) && fails(verdict, code) && fails(membership, code));
+        for code in [13, 14, 17, 18, 19, 21, 99, 105, 255] {
+            assert!(fails(answer, code) && fails(verdict, code) && fails(membership, code) && fails(named, code));
         }
         // A word of another operation is none either.
-        assert!([100, 101, 102, 103].iter().all(|code| fails(answer, *code)));
-        assert!(fails(verdict, 103) && fails(membership, 100));
+        assert!([100, 101, 102, 103, 104].iter().all(|code| fails(answer, *code)));
+        assert!([103, 104].iter().all(|code| fails(verdict, *code)));
+        assert!([100, 104].iter().all(|code| fails(membership, *code)));
+        assert!([100, 101, 102, 103].iter().all(|code| fails(named, *code)));
     }
 }

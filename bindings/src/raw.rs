@@ -1,11 +1,11 @@
 //! The functions of the static library as C sees them, and how they are called.
 //!
-//! The five numbers of a setting come first; each slice is a pointer and a length. The number of leaves under an instance
-//! stands after its slices: as a number where the instance is read, as a pointer where it is written. Every function
-//! answers 0, a refusal (1 to 12, 15 or 16), or one of the words from 100 on.
+//! The five numbers of a setting come first, where there is one; each slice is a pointer and a length. The number of
+//! leaves under an instance stands after its slices: as a number where the instance is read, as a pointer where it is
+//! written. Every function answers 0, a refusal (1 to 12, 15, 16 or 20), or one of the words from 100 on.
 
-/// The code of a C function for the five numbers of a setting, the slices that it reads and those that it writes. What
-/// follows the slices of an instance is its number of leaves, or a reference to it.
+/// The code of a C function for the five numbers of a setting, where it has one, the slices that it reads and those
+/// that it writes. What follows the slices of an instance is its number of leaves, or a reference to it.
 macro_rules! call {
     (
         $function:path, $five:expr,
@@ -23,6 +23,10 @@ macro_rules! call {
             )
         }
     }};
+    ($function:path, [$($read:expr),*] => [$($written:expr),*]) => {
+        // SAFETY: as above.
+        unsafe { $function($($read.as_ptr(), $read.len(),)* $($written.as_mut_ptr(), $written.len(),)*) }
+    };
 }
 pub(crate) use call;
 
@@ -114,4 +118,8 @@ extern "C" {
     ) -> u8;
 
     pub fn lova_listed(number: u64, five: *mut u64, five_len: usize) -> u8;
+
+    pub fn lova_next_fold(
+        weights: *const u64, weights_len: usize, waiting: *mut u32, waiting_len: usize, turn: *mut u64, turn_len: usize,
+    ) -> u8;
 }

@@ -1,6 +1,6 @@
 //! The specification's points, through the bindings.
 
-use lova::{triangle, Instance, Membership, Record, Refusal, Setting, Verdict, RECORD};
+use lova::{triangle, Instance, Membership, Record, Refusal, Setting, Turn, Verdict, GROUPS, RECORD};
 
 const ONE: Setting = Setting::unchecked(1, 1, 1, 2, 100);
 const C: [u8; 10] = [1, 1, 1, 0, 0, 2, 0, 2, 0, 0];
@@ -319,5 +319,86 @@ fn an_unsymmetric_instance_is_norm() {
         assert_with_products(d, [1; 4], Ok(Verdict::Norm));
         assert_with_products([1; 4], d, Ok(Verdict::Norm));
         assert_with_products(d, [577, 1, 1, 1], Ok(Verdict::Long));
+    }
+}
+
+/// Weights of the groups, with the least and the greatest among them.
+const WEIGHTS: [u64; GROUPS] = [3, 1, 4, 1, 5, 9, 2, 16];
+
+/// Ask for the next fold by both functions: it has this group and new turn, and its count is one less; or nothing, or a
+/// refusal, changes nothing.
+#[track_caller]
+fn assert_next(
+    weights: [u64; GROUPS], waiting: [u32; GROUPS], turn: [u64; 2], expected: Result<Option<[u64; 2]>, Refusal>,
+) {
+    let (mut left, new) = (waiting, expected.ok().flatten().unwrap_or(turn));
+    if let Ok(Some([group, _])) = expected {
+        left[group as usize - 1] -= 1;
+    }
+    let answer = expected.map(|new| new.map(|[group, _]| group));
+    let (mut counts, mut places) = (waiting, turn);
+    assert_eq!(lova::write_next_fold(&weights, &mut counts, &mut places), answer);
+    assert_eq!((counts, places), (left, new));
+    let (mut counts, mut record) = (waiting, Turn { group: turn[0], used: turn[1] });
+    assert_eq!(lova::next_fold(&weights, &mut counts, &mut record), answer);
+    assert_eq!((counts, [record.group, record.used]), (left, new));
+}
+
+#[test]
+fn turns_go_on_and_pass_on() {
+    // A turn that has not begun, one that goes on, and one that is over.
+    assert_next(WEIGHTS, [1; GROUPS], [3, 0], Ok(Some([3, 1])));
+    assert_next(WEIGHTS, [u32::MAX; GROUPS], [3, 3], Ok(Some([3, 4])));
+    assert_next(WEIGHTS, [u32::MAX; GROUPS], [3, 4], Ok(Some([4, 1])));
+    // The group has none waiting; the next that waits stands further up, or past 8.
+    assert_next(WEIGHTS, [1, 0, 0, 0, 0, 0, 1, 1], [3, 2], Ok(Some([7, 1])));
+    assert_next(WEIGHTS, [0, 1, 0, 0, 0, 0, 0, 0], [3, 0], Ok(Some([2, 1])));
+    assert_next(WEIGHTS, [u32::MAX; GROUPS], [8, 16], Ok(Some([1, 1])));
+    assert_next(WEIGHTS, [1, 1, 1, 1, 1, 1, 1, 0], [8, 3], Ok(Some([1, 1])));
+}
+
+#[test]
+fn a_group_alone_and_nobody() {
+    for (at, weight) in WEIGHTS.into_iter().enumerate() {
+        let (mut alone, group) = ([0; GROUPS], at as u64 + 1);
+        assert_next(WEIGHTS, alone, [group, 0], Ok(None));
+        assert_next(WEIGHTS, alone, [group, weight], Ok(None));
+        for count in [1, u32::MAX] {
+            alone[at] = count;
+            assert_next(WEIGHTS, alone, [group, weight], Ok(Some([group, 1])));
+            assert_next(WEIGHTS, alone, [group, weight - 1], Ok(Some([group, weight])));
+        }
+    }
+}
+
+#[test]
+fn turns_are_refused() {
+    for waiting in [[0; GROUPS], [1; GROUPS], [u32::MAX; GROUPS]] {
+        let refused = |weights, turn| assert_next(weights, waiting, turn, Err(Refusal::Turn));
+        for at in 0..GROUPS {
+            for weight in [0, 17, (1 << 32) + 1, u64::MAX] {
+                let mut weights = WEIGHTS;
+                weights[at] = weight;
+                refused(weights, [1, 0]);
+            }
+            for used in [WEIGHTS[at] + 1, 17, 1 << 32, u64::MAX] {
+                refused(WEIGHTS, [at as u64 + 1, used]);
+            }
+        }
+        for group in [0, 9, (1 << 32) + 1, u64::MAX] {
+            refused(WEIGHTS, [group, 0]);
+        }
+    }
+}
+
+#[test]
+fn other_lengths_of_a_turn_are_refused() {
+    // 7 comes before 20 and before nothing at all.
+    for (weight, count) in [(1, 1), (1, 0), (17, 1), (17, 0)] {
+        for (weights, waiting, turn) in [(7, 8, 2), (9, 8, 2), (8, 7, 2), (8, 9, 2), (8, 8, 1), (8, 8, 3), (0, 0, 0)] {
+            let (mut counts, mut places) = (vec![count; waiting], vec![1; turn]);
+            let answer = lova::write_next_fold(&vec![weight; weights], &mut counts, &mut places);
+            assert_eq!((answer, counts, places), (Err(Refusal::Length), vec![count; waiting], vec![1; turn]));
+        }
     }
 }

@@ -224,7 +224,7 @@ pub struct Call {
 }
 
 /// The part of an output that is lent.
-fn lent<E>(guarded: &mut [E]) -> &mut [E] {
+pub fn lent<E>(guarded: &mut [E]) -> &mut [E] {
     let end = guarded.len() - GUARD;
     &mut guarded[GUARD..end]
 }

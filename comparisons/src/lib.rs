@@ -22,4 +22,6 @@ pub mod seed;
 pub mod settings;
 pub mod tally;
 #[cfg(feature = "library")]
+pub mod turns;
+#[cfg(feature = "library")]
 pub mod verdicts;

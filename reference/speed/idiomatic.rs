@@ -1,10 +1,13 @@
 //! The seven operations and their products as a careful Rust user writes them: loops over slices with iterators, rows
 //! in the order of memory, nothing tuned by hand. The speed table compiles this file twice, with `-O` and with `-O` for
-//! the processor at hand, and holds the static library against both. `fresh` has the operations with a fresh witness.
+//! the processor at hand, and holds the static library against both. `fresh` has the operations with a fresh witness,
+//! `turns` that of taking turns.
 
 mod fresh;
+mod turns;
 
 pub use fresh::*;
+pub use turns::*;
 
 /// What a setting's five numbers fix.
 pub struct Shape {

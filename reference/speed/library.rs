@@ -115,3 +115,7 @@ pub fn verify_fresh(
 pub fn test_relation(p: [u64; 5], a: &[u64], t: &[u64], d: &[i64], s: &[i64]) -> u8 {
     call!(lova_test_relation, p, [a, t, d, s] => [])
 }
+
+pub fn next_fold(weights: &[u64], waiting: &mut [u32], turn: &mut [u64]) -> u8 {
+    call!(lova_next_fold, [weights] => [waiting, turn])
+}

@@ -2,15 +2,17 @@
 //!
 //! Every operation, in both profiles, and the digits and the four costly products alone, on the same inputs, with outputs
 //! asserted equal. The variants take turns, so that what else the machine does falls on all of them; a fresh call also takes
-//! turns with the library's general one.
+//! turns with the library's general one. The operation that names the group of the next fold has a table of its own.
 
 mod cases;
 mod library;
 mod rows;
 mod timing;
+mod turn_rows;
 
 use cases::case;
 use rows::{fresh_rows, rows, Row};
+use turn_rows::{turn_rows, TurnRow, CALLS};
 
 /// The settings of the first table: the house list, then large ones. The bound of the last is 9^14: k = 16 and N = 512, the
 /// largest N there is, with the largest n, m and t.
@@ -83,14 +85,25 @@ fn print_growth() {
     }
 }
 
+/// The third table: a call of the turns of each kind, with the ratios of the first table.
+fn print_turns() {
+    println!("taking turns: {CALLS} calls of each kind");
+    println!("  {:<16}{:>12}{:>12}{:>12}{:>14}", "", "Lova", "Rust -O", "ratio", "ratio native");
+    for TurnRow { name, times: [lova, plain, native] } in turn_rows() {
+        println!("  {name:<16}{lova:>9.1} ns{plain:>9.1} ns{:>12.3}{:>14.3}", lova / plain, lova / native);
+    }
+}
+
 fn main() {
     match std::env::args().nth(1).as_deref() {
         None => {
             print_ratios();
             print_growth();
+            print_turns();
         }
         Some("ratios") => print_ratios(),
         Some("growth") => print_growth(),
-        Some(other) => panic!("ratios, growth or nothing, not {other}"),
+        Some("turns") => print_turns(),
+        Some(other) => panic!("ratios, growth, turns or nothing, not {other}"),
     }
 }

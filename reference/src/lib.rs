@@ -15,3 +15,4 @@ pub mod rng;
 pub mod settings;
 pub mod stored;
 pub mod tree;
+pub mod turns;

@@ -6,6 +6,7 @@ use lib.IntN.{pos, negsuc}
 use Rattle.integers.specs.Lists.{build}
 use Rattle.integers.specs.Sums.{sum, sumℕ}
 use Rattle.integers.specs.Residues.{residue}
+use Rattle.integers.specs.Tests.{all}
 use Rattle.matrices.specs.Tables.{table, ternary}
 use Rattle.matrices.specs.Triangles.{lower, mirrored}
 use Rattle.settings.specs.Rules.{firstOf}
@@ -14,7 +15,7 @@ use Rattle.settings.specs.HouseList.{parameters}
 use Rattle.digits.specs.Digits.{stepOf, restOf, digitOf}
 use Rattle.line_machines.specs.Machines.{lineStep, lastOutput, printed, outputOf}
 use Rattle.lova.specs.Answers.{unlessRefused, refusal, refuses}
-use Rattle.lova.specs.Tests.{all, every, eqZ, shortRight, diagonalWithin, areTernary, countsJoin}
+use Rattle.lova.specs.Tests.{every, eqZ, shortRight, diagonalWithin, areTernary, countsJoin}
 use Rattle.lova.specs.Fold.{beside, above, digitWitness, gadget}
 use Rattle.lova.specs.Commit.{commitRules, instanceIn, commitIn}
 use Rattle.lova.specs.Relation.{relationRules, productsHold, commitmentHolds, memberWord, relation}

@@ -3,8 +3,9 @@ use mathlib.Core.Bool.{Bool, not, _&&_}
 use mathlib.Core.List.{List, [], _∷_, _++_}
 use Prim.Native.Nat.{ℕ, _^_}
 use lib.Dec.{leb}
+use Rattle.integers.specs.Ranges.{_to_}
 use Rattle.settings.specs.Rules.{Rule, _gives_}
-use Rattle.settings.specs.Settings.{Parameters, Limits, _to_, kOf, settingRules}
+use Rattle.settings.specs.Settings.{Parameters, Limits, kOf, settingRules}
 
 -- the limits of the settings that the program takes: document 01's
 abbrev pub settingLimits : Limits

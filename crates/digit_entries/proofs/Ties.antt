@@ -14,14 +14,14 @@ use mathlib.Core.List.{List}
 use Rattle.integers.specs.Sums.{sum}
 use Rattle.integers.proofs.Ring.{diff, diff-eq, diff-pos, diff-neg, diff-cases, ring, as-diff, *ℤ-assoc}
 use Rattle.integers.proofs.Sizes.{natAbs-negate, natAbs-*}
-use Rattle.integers.proofs.Tests.{true-is, false-is}
+use Rattle.integers.proofs.Tests.{true-is, false-is, all-true, all-elim}
 use Rattle.integers.proofs.Sums.{sum-cong, sum-add, sum-negate, sum-mul-left}
 use Rattle.digits.specs.declared.Step.{Step}
 use Rattle.digits.specs.Digits.{stepOf, restOf, signOf, digitOf}
 use Rattle.digits.proofs.Signs.{sign-size, sign-times, one-times, minus-one-times}
 use Rattle.digits.proofs.Steps.{step-cases}
 use Rattle.digits.proofs.Digits.{digit-by-sign, digits-so-far, above-no-minus-half, below-no-half}
-use Rattle.lova.proofs.Tests.{all-true, all-elim, eqZ-iff}
+use Rattle.lova.proofs.Tests.{eqZ-iff}
 use Rattle.digit_entries.specs.Entries.{Digits, entryOf, followRule}
 use Rattle.digit_entries.proofs.Clamped.{from-zero}
 use Rattle.digit_entries.proofs.Sums.{byPowers, sum-less, both-zero, all-zero}

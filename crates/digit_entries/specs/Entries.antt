@@ -6,8 +6,9 @@ use lib.Dec.{leb}
 use lib.IntN.{ℤ, pos, natAbs, _*ℤ_}
 use lib.ListN.{length, getD}
 use Rattle.integers.specs.Sums.{sum}
+use Rattle.integers.specs.Tests.{all}
 use Rattle.digits.specs.Digits.{signOf, digitOf}
-use Rattle.lova.specs.Tests.{all, eqZ}
+use Rattle.lova.specs.Tests.{eqZ}
 
 -- each number of the list is at most h = b/2 in size (past its end stands 0)
 abbrev pub Digits : ℕ → List ℤ → Type 0

@@ -13,15 +13,15 @@ use lib.Seq.{getD-take}
 use borrow.Author.Tests.{lt-leb}
 use Rattle.integers.specs.Lists.{build}
 use Rattle.integers.proofs.Lists.{length-build, getD-build}
-use Rattle.integers.proofs.Tests.{true-is, false-is, le-or-lt}
+use Rattle.integers.proofs.Tests.{true-is, false-is, le-or-lt, all-true, all-elim, all-fails, all-cong, all-none, all-more}
+use Rattle.integers.specs.Tests.{all}
 use Rattle.matrices.specs.declared.Left.{Left}
 use Rattle.matrices.specs.Lengths.{lessSquare}
 use Rattle.matrices.specs.Matrices.{squaredLength}
 use Rattle.matrices.proofs.Lengths.{LeftAfter, none-taken, one-taken, too-long, all-taken}
 use Rattle.matrices.proofs.Tables.{row-within}
-use Rattle.lova.specs.Tests.{all, every}
+use Rattle.lova.specs.Tests.{every}
 use Rattle.lova.proofs.Numbers.{true-T}
-use Rattle.lova.proofs.Tests.{all-true, all-elim, all-fails, all-cong, all-none, all-more}
 use Rattle.digit_entries.specs.Entries.{entryOf, limit, clamped, followRule}
 use Rattle.digit_entries.proofs.Clamped.{clamped-within, clamped-reaches}
 use Rattle.digit_rows.specs.Rows.{digitsAt, readAt, taken, place, entryAt, shortColumns, ruledEntries}

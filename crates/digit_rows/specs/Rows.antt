@@ -5,11 +5,12 @@ use Prim.Native.Nat.{ℕ, _+_, _*_}
 use lib.Dec.{leb}
 use lib.IntN.{ℤ}
 use lib.ListN.{length, getD, take, drop}
+use Rattle.integers.specs.Tests.{all}
 use Rattle.matrices.specs.Matrices.{Matrix, squaredLength}
 use Rattle.matrices.specs.declared.Left.{Left}
 use Rattle.matrices.specs.Lengths.{lessSquare}
 use Rattle.settings.specs.Rules.{Rule, _gives_}
-use Rattle.lova.specs.Tests.{all, every}
+use Rattle.lova.specs.Tests.{every}
 use Rattle.digit_entries.specs.Entries.{entryOf, limit, clamped, followRule}
 use Rattle.digit_rows.specs.declared.Row.{Row}
 

@@ -1,9 +1,10 @@
-// Words of 64 bits: the wrapping product, and signed words by size, residue and sign.
+// Words of 64 bits: the wrapping product, signed words by size, residue and sign, and ranges.
 ghost use mathlib.Core.Path.{_≡_};
 ghost use Prim.Native.Nat.{_*_, _%_, _^_};
 ghost use lib.IntN.{natAbs};
 ghost use Rattle.integers.specs.Residues.{word};
 ghost use Rattle.integers.specs.Words.{signedWord};
+ghost use Rattle.integers.specs.Ranges.{_to_, within};
 
 // x * y modulo 2^64, by halves of 32 bits. The machine code is one multiply (mov, imul, ret).
 pub fn wrapping_mul(x: u64, y: u64) -> u64
@@ -59,4 +60,11 @@ pub fn with_sign(size: u64, negative: bool) -> Signed
         }
     }
     Signed::TooLarge
+}
+
+// Whether x is in the range from `low` to `high`, both among them.
+pub fn inside(x: u64, low: u64, high: u64) -> bool
+    ensures { λ r. ⌜ r ≡ within (low to high) x ⌝ }
+{
+    low <= x && x <= high
 }

@@ -8,7 +8,8 @@ use Prim.Native.Nat.{ℕ, _≤_, _<_}
 use lib.Dec.{T, leb, leb→le}
 use lib.ListN.{getD}
 use Rattle.integers.proofs.Tests.{and-fst}
-use Rattle.settings.specs.Settings.{Parameters, _to_, within}
+use Rattle.integers.specs.Ranges.{_to_, within}
+use Rattle.settings.specs.Settings.{Parameters}
 use Rattle.line_machines.specs.Machines.{Step}
 use Rattle.loads.specs.Loads.{State, end, mostLoaded, next, refuse, onLoad}
 use Rattle.load_runs.specs.Inputs.{askedOf}

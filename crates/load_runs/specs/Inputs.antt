@@ -4,7 +4,7 @@ use mathlib.Core.List.{List, []}
 use mathlib.Core.Option.{Option, some, none}
 use Prim.Native.Nat.{ℕ, _+_, _*_}
 use lib.ListN.{getD}
-use Rattle.settings.specs.Settings.{_to_, within}
+use Rattle.integers.specs.Ranges.{_to_, within}
 use Rattle.line_machines.specs.Machines.{longestLine, bytewise}
 use Rattle.loads.specs.Loads.{Stage, mostLoaded, loadMachine}
 use Rattle.load_runs.specs.declared.records.Asked.{Asked}

@@ -12,8 +12,9 @@ use lib.ListN.{length, getD}
 use Rattle.integers.specs.Lists.{build}
 use Rattle.integers.proofs.Lists.{is-build}
 use Rattle.integers.proofs.Tests.{and-fst, and-snd}
+use Rattle.integers.specs.Ranges.{_to_, within}
 use Rattle.settings.specs.Rules.{firstOf}
-use Rattle.settings.specs.Settings.{Parameters, _to_, within}
+use Rattle.settings.specs.Settings.{Parameters}
 use Rattle.numerals.specs.Numerals.{natural, fitUnsigned, readUnsigned, unsignedOf, decimal}
 use Rattle.numerals.specs.declared.ParsedU64.the-variants as Unsigned
 use Rattle.text.specs.Fields.{recordOf, readU64}

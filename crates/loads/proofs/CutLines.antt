@@ -11,7 +11,8 @@ use lib.Dec.{leb}
 use lib.ListN.{length, getD, take, drop, take-append-drop}
 use lib.Seq.{length-take-le, take-all}
 use Rattle.integers.proofs.Tests.{le-or-lt}
-use Rattle.settings.specs.Settings.{Parameters, _to_, within}
+use Rattle.integers.specs.Ranges.{_to_, within}
+use Rattle.settings.specs.Settings.{Parameters}
 use Rattle.text.specs.Fields.{recordOf, readU64}
 use Rattle.line_machines.specs.Machines.{Step, longestLine, lineStep, lastOutput, feedAll, feedOutput, bytewise}
 use Rattle.line_machines.specs.Cuts.{CutTo, cutOf}

@@ -4,7 +4,8 @@ use mathlib.Core.List.{List, [], _∷_}
 use mathlib.Core.Option.{Option, some, none}
 use Prim.Native.Nat.{ℕ, zero, suc, _+_}
 use lib.ListN.{getD}
-use Rattle.settings.specs.Settings.{Parameters, _to_, within}
+use Rattle.integers.specs.Ranges.{_to_, within}
+use Rattle.settings.specs.Settings.{Parameters}
 use Rattle.text.specs.Fields.{recordOf, readU64}
 use Rattle.line_machines.specs.Machines.{Machine, Step, outputOf}
 use Rattle.chain.specs.Params.{paramWord, paramSetting, paramRefusal}

@@ -7,7 +7,8 @@ use native.Mathlib.Omega.{arith}
 use lib.IntN.{ℤ, pos}
 use lib.Signed.{leZ}
 use Rattle.integers.specs.Residues.{word}
-use Rattle.integers.proofs.Tests.{same-test}
+use Rattle.integers.proofs.Tests.{same-test, all-true, all-elim}
+use Rattle.integers.specs.Tests.{all}
 use Rattle.matrices.specs.Matrices.{Matrix, product, bothSides, contracted}
 use Rattle.matrices.specs.Tables.{table}
 use Rattle.matrices.proofs.Matrices.{product-cong, bothSides-cong}
@@ -18,12 +19,11 @@ use Rattle.lova.specs.declared.Profile.{Profile}
 use Rattle.lova.specs.declared.Profile.the-variants.{General, Fresh}
 use Rattle.lova.specs.Answers.{Outcome, ends, «yes», long, norm, commitment}
 use Rattle.lova.specs.Stored.{Instance, Counted, counted, Message, rightOf, columnsOf, matrixT, matrixD, matrixS~, rightT, rightD, sentV, sentS~, sentT~, sentD~, readC}
-use Rattle.lova.specs.Tests.{all, equal, equalWords, diagonalWithin}
+use Rattle.lova.specs.Tests.{equal, equalWords, diagonalWithin}
 use Rattle.lova.specs.Fold.{beside, blocks, gadget}
 use Rattle.lova.specs.Repeats.{challengeIn, repeatedInstance, repeatedS~, meant}
 use Rattle.lova.specs.Verdict.{diagonalsHold, firstHolds, secondHolds, foldedInstance, verdictBy, judged, judgedIn}
 use Rattle.lova.specs.Witness.{foldedWitness}
-use Rattle.lova.proofs.Tests.{all-true, all-elim}
 use Rattle.lova.proofs.FreshTests as FreshTests
 use Rattle.lova.proofs.Repeated as Repeated
 use Rattle.lova.proofs.Widths.{columns-are}

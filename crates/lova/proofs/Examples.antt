@@ -9,6 +9,7 @@ use lib.ListN.{length, set, replicate}
 use Rattle.integers.specs.Lists.{build}
 use Rattle.integers.specs.Sums.{sum, sumℕ}
 use Rattle.integers.specs.Residues.{residue}
+use Rattle.integers.specs.Tests.{all}
 use Rattle.matrices.specs.Tables.{table, ternary}
 use Rattle.matrices.specs.Triangles.{lower, mirrored}
 use Rattle.settings.specs.Rules.{firstOf}
@@ -19,7 +20,7 @@ use Rattle.lova.specs.declared.Profile.{Profile}
 use Rattle.lova.specs.declared.Profile.the-variants.{General, Fresh}
 use Rattle.lova.specs.Answers.{done, «yes», norm, commitment, long, member, Outcome, ends, unlessRefused}
 use Rattle.lova.specs.Stored.{Instance, Counted, counted, Message, Prepared}
-use Rattle.lova.specs.Tests.{all, every, eqZ, shortRight, diagonalWithin, areTernary, countsJoin}
+use Rattle.lova.specs.Tests.{every, eqZ, shortRight, diagonalWithin, areTernary, countsJoin}
 use Rattle.lova.specs.Fold.{beside, above, digitWitness, gadget}
 use Rattle.lova.specs.Repeats.{placeOf}
 use Rattle.lova.specs.Commit.{commitRules, instanceIn, commitIn}

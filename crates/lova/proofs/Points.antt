@@ -5,13 +5,14 @@ use native.Mathlib.Omega.{arith}
 use Rattle.integers.specs.Lists.{build}
 use Rattle.integers.specs.Sums.{sum, sumℕ}
 use Rattle.integers.specs.Residues.{residue}
+use Rattle.integers.specs.Tests.{all}
 use Rattle.matrices.specs.Tables.{table, ternary}
 use Rattle.matrices.specs.Triangles.{lower, mirrored}
 use Rattle.settings.specs.Rules.{firstOf}
 use Rattle.settings.specs.Settings.{greatest, LOf, repunit, settingRefusal}
 use Rattle.digits.specs.Digits.{stepOf, restOf, digitOf}
 use Rattle.lova.specs.Answers.{unlessRefused}
-use Rattle.lova.specs.Tests.{all, every, eqZ, shortRight, diagonalWithin, areTernary, countsJoin}
+use Rattle.lova.specs.Tests.{every, eqZ, shortRight, diagonalWithin, areTernary, countsJoin}
 use Rattle.lova.specs.Fold.{beside, above, digitWitness, gadget}
 use Rattle.lova.specs.Commit.{commitRules, instanceIn, commitIn}
 use Rattle.lova.specs.Join.{joinRules, joinedInstance, joinIn}

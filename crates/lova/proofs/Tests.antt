@@ -1,19 +1,19 @@
 -- What the tests of the rules and of the verdict say.
-use mathlib.Core.Path.{_≡_, refl, sym, ap, subst}
+use mathlib.Core.Path.{_≡_, ap}
 use mathlib.Core.Logic.{_↔_, _⊎_, inl, inr, ⊎-elim}
-use mathlib.Core.Bool.{Bool, true, false, not, _&&_}
+use mathlib.Core.Bool.{Bool, not, _&&_}
 use mathlib.Core.List.{List}
 use Prim.Native.Nat.{ℕ, zero, suc, _+_, _*_, _/_, _%_, _<_, _≤_}
 use native.Mathlib.Omega.{arith}
-use native.Mathlib.Nat.{eq-or-lt-of-le, le-of-suc-le-suc, div-add-mod', div-lt-iff-lt-mul, mod-lt}
-use native.Mathlib.Numerals.{add-one}
+use native.Mathlib.Nat.{div-add-mod', div-lt-iff-lt-mul, mod-lt}
 use lib.Dec.{T, not-T, eqb, leb, leb→le, le→leb, lt→ltb, nleb→lt, eqb→eq, eqb-refl}
 use lib.IntN.{ℤ, pos, negsuc, natAbs}
 use lib.ListN.{length, getD}
 use lib.Signed.{leZ, _<ℤ_, clashℤ}
 use Rattle.integers.proofs.Lists.{everywhere}
-use Rattle.integers.proofs.Tests.{and-fst, and-snd, and-both, same-test}
+use Rattle.integers.proofs.Tests.{and-fst, and-snd, and-both, one-fails, same-test, all-true, all-elim, all-fails}
 use Rattle.integers.specs.Residues.{word}
+use Rattle.integers.specs.Tests.{all}
 use Rattle.matrices.specs.Matrices.{Matrix, Agree}
 use Rattle.matrices.specs.Tables.{entry, signed}
 use Rattle.matrices.specs.Triangles.{triangular, mirrored}
@@ -21,53 +21,10 @@ use Rattle.matrices.proofs.Triangles.{mirrored-bounds}
 use Rattle.settings.specs.Settings.{Parameters, NOf}
 use Rattle.lova.specs.declared.Profile.{Profile}
 use Rattle.lova.specs.Stored.{Instance, mostLeaves, rightOf, columnsOf}
-use Rattle.lova.specs.Tests.{all, every, eqZ, equal, equalWords, shortRight, diagonalWithin, areTernary, countsJoin, bounded}
+use Rattle.lova.specs.Tests.{every, eqZ, equal, equalWords, shortRight, diagonalWithin, areTernary, countsJoin, bounded}
 use Rattle.lova.specs.Calls.{ShortRight, DiagonalWithin, DiagonalLong, Ternary, CountsJoin, Bounded, ShortRecomposed, FollowsRule}
 use Rattle.lova.specs.Recompose.{shortRecomposed, followsRule}
 use Rattle.lova.specs.Verdict.{Diagonals, diagonalsHold}
-
--- of two tests one fails
-one-fails : (a b : Bool) → T (not (a && b)) → T (not a) ⊎ T (not b)
-one-fails true b h = inr h
-one-fails false b h = inl tt
-
--- each number below n passes
-pub all-true : (n : ℕ) (P : ℕ → Bool) → ((i : ℕ) → i < n → T (P i)) → T (all n P)
-unfolding all
-all-true zero P h = tt
-all-true (suc n) P h = and-both (all n P) (P n) (all-true n P (λ i l. h i (omega arith))) (h n (omega arith))
-
-pub all-elim : (n : ℕ) (P : ℕ → Bool) → T (all n P) → (i : ℕ) → i < n → T (P i)
-unfolding all
-all-elim zero P h i l = absurd (omega arith)
-all-elim (suc n) P h i l = ⊎-elim
-    (λ (e : i ≡ n). rw e (and-snd (all n P) (P n) h))
-    (λ (k : i < n). all-elim n P (and-fst (all n P) (P n) h) i k)
-    (eq-or-lt-of-le (le-of-suc-le-suc l))
-
--- no number yet, and one more, at the code's n + 1
-pub all-none : (P : ℕ → Bool) → all 0 P ≡ true
-unfolding all
-all-none P = refl
-
-pub all-more : (n : ℕ) (P : ℕ → Bool) → all (n + 1) P ≡ (all n P && P n)
-unfolding all
-all-more n P = rw (add-one n) refl
-
--- tests that agree below n agree as a whole
-pub all-cong : (n : ℕ) (P Q : ℕ → Bool) → ((i : ℕ) → i < n → P i ≡ Q i) → all n P ≡ all n Q
-all-cong n P Q e = same-test (all n P) (all n Q)
-    (λ h. all-true n Q (λ i l. subst T (e i l) (all-elim n P h i l)))
-    (λ h. all-true n P (λ i l. subst T (sym (e i l)) (all-elim n Q h i l)))
-
--- some number below n fails
-pub all-fails : (n : ℕ) (P : ℕ → Bool) → T (not (all n P)) → (i : ℕ) × (i < n) × T (not (P i))
-unfolding all
-all-fails zero P h = absurd h
-all-fails (suc n) P h = ⊎-elim
-    (λ (u : T (not (all n P))). let r = all-fails n P u in (r .0, omega (arith, r .1), r .2))
-    (λ (u : T (not (P n))). (n, omega arith, u))
-    (one-fails (all n P) (P n) h)
 
 -- each entry passes
 pub every-iff : (rows cols : ℕ) (P : ℕ → ℕ → Bool) → T (every rows cols P) ↔ ((i j : ℕ) → i < rows → j < cols → T (P i j))

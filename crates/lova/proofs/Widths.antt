@@ -6,6 +6,7 @@ use native.Mathlib.Omega.{arith}
 use native.Mathlib.Nat.{le-trans, mul-le-mul-right}
 use lib.Dec.{leb}
 use lib.IntN.{ℤ}
+use Rattle.integers.specs.Tests.{all}
 use Rattle.matrices.specs.Matrices.{squaredLength, contracted}
 use Rattle.matrices.specs.Tables.{signed}
 use Rattle.settings.specs.declared.Setting.{Setting}
@@ -14,7 +15,7 @@ use Rattle.lova.specs.declared.Profile.{Profile}
 use Rattle.lova.specs.declared.Profile.the-variants.{General, Fresh}
 use Rattle.lova.specs.Stored.{rightFor, rightOf, copiesFor, columnsOf, readC}
 use Rattle.lova.specs.Repeats.{challengeIn}
-use Rattle.lova.specs.Tests.{all, shortRight}
+use Rattle.lova.specs.Tests.{shortRight}
 use Rattle.lova.specs.Calls.{Rebuilt}
 use Rattle.lova.proofs.Rebuilding.{rebuilt-accepted, k-is}
 

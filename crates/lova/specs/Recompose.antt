@@ -4,13 +4,14 @@ use mathlib.Core.List.{List, [], _∷_}
 use Prim.Native.Nat.{ℕ, _+_}
 use lib.Dec.{leb}
 use lib.IntN.{ℤ}
+use Rattle.integers.specs.Tests.{all}
 use Rattle.matrices.specs.Matrices.{Matrix, product, squaredLength}
 use Rattle.settings.specs.Rules.{Rule, _gives_, firstOf}
 use Rattle.settings.specs.Settings.{Parameters, hOf}
 use Rattle.lova.specs.Answers.{afterSetting, done, Outcome, ends, unlessRefused}
 use Rattle.lova.specs.declared.Profile.{Profile}
 use Rattle.lova.specs.Stored.{Witnesses, matrixS, rightOf, columnsOf, rightS, sentS~}
-use Rattle.lova.specs.Tests.{all, equal, bounded, fits}
+use Rattle.lova.specs.Tests.{equal, bounded, fits}
 use Rattle.lova.specs.Fold.{digitWitness, gadget}
 
 -- S~ G, what a digit witness stands for: m by 2t, or by t + 1

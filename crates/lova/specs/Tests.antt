@@ -1,23 +1,19 @@
 -- The tests that the rules and the verdict use.
-use mathlib.Core.Bool.{Bool, true, false, _&&_}
+use mathlib.Core.Bool.{Bool, false, _&&_}
 use mathlib.Core.List.{List}
-use Prim.Native.Nat.{ℕ, zero, suc, _+_}
+use Prim.Native.Nat.{ℕ, _+_}
 use lib.Dec.{leb, eqb}
 use lib.IntN.{ℤ, pos, negsuc, natAbs}
 use lib.ListN.{length}
 use lib.Signed.{leZ}
 use Rattle.integers.specs.Residues.{word}
+use Rattle.integers.specs.Tests.{all}
 use Rattle.matrices.specs.Matrices.{Matrix, squaredLength}
 use Rattle.matrices.specs.Tables.{entry}
 use Rattle.settings.specs.Settings.{Parameters, NOf}
 use Rattle.lova.specs.declared.Profile.{Profile}
 use Rattle.lova.specs.declared.Profile.the-variants.{General}
 use Rattle.lova.specs.Stored.{Stored, Instance, mostLeaves, Message, Prepared, rightOf, matrixT, matrixD, rightS, rightT, rightD, sentV, sentS~, sentT~, sentD~, joinedT, joinedD, sizeC}
-
--- a test of every number below n
-unfoldable pub all : ℕ → (ℕ → Bool) → Bool
-all zero P = true
-all (suc n) P = all n P && P n
 
 -- a test of every entry of a matrix
 unfoldable pub every : ℕ → ℕ → (ℕ → ℕ → Bool) → Bool

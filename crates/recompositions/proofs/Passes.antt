@@ -11,7 +11,8 @@ use lib.IntN.{ℤ, pos, natAbs, _*ℤ_}
 use lib.ListN.{length, getD}
 use Rattle.integers.specs.Sums.{sum}
 use Rattle.integers.proofs.Sums.{sum-cong, sumℕ-cong}
-use Rattle.integers.proofs.Tests.{same-test}
+use Rattle.integers.proofs.Tests.{same-test, all-true, all-elim, all-cong}
+use Rattle.integers.specs.Tests.{all}
 use Rattle.matrices.specs.Matrices.{Matrix, product, squaredLength}
 use Rattle.matrices.specs.Tables.{table, signed}
 use Rattle.matrices.proofs.Bounds.{entry-squared}
@@ -22,13 +23,13 @@ use Rattle.settings.specs.Settings.{Parameters, parametersOf, kOf}
 use Rattle.digits.specs.Digits.{digitOf}
 use Rattle.lova.specs.declared.Profile.{Profile}
 use Rattle.lova.specs.Stored.{Witnesses, rightFor, columnsOf, sentS~}
-use Rattle.lova.specs.Tests.{all, every}
+use Rattle.lova.specs.Tests.{every}
 use Rattle.lova.specs.Calls.{Fits, Rebuilt, ShortRecomposed, FollowsRule}
 use Rattle.lova.specs.Fold.{gadget, digitWitness}
 use Rattle.lova.specs.Recompose.{recomposed, witnessesOf, shortRecomposed, followsRule}
 use Rattle.lova.proofs.Gadget.{gadget-right, digit-place}
 use Rattle.lova.proofs.Rebuilding.{rebuilt-accepted, k-is}
-use Rattle.lova.proofs.Tests.{all-true, all-elim, all-cong, every-iff, eqZ-iff, rule-iff}
+use Rattle.lova.proofs.Tests.{every-iff, eqZ-iff, rule-iff}
 use Rattle.lova.proofs.Widths.{wide-of}
 use Rattle.digit_entries.specs.Entries.{entryOf, limit, clamped, followRule}
 use Rattle.digit_entries.proofs.Clamped.{clamped-within}

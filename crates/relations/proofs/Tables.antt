@@ -11,10 +11,11 @@ use lib.ListN.{length, take, replicate, length-replicate}
 use lib.Seq.{length-take-le}
 use Rattle.integers.specs.Residues.{word}
 use Rattle.integers.proofs.Residues.{residue-residue}
+use Rattle.integers.specs.Tests.{all}
 use Rattle.matrices.specs.Matrices.{Matrix}
 use Rattle.matrices.specs.Tables.{table, signed, unsigned}
 use Rattle.matrices.proofs.Tables.{entries-table}
-use Rattle.lova.specs.Tests.{all, every, eqZ, equal, equalWords}
+use Rattle.lova.specs.Tests.{every, eqZ, equal, equalWords}
 
 -- so many rows and columns have room for their entries
 pub room : {rows cols r c : ℕ} → rows ≤ r → cols ≤ c → rows * cols ≤ r * c

@@ -6,7 +6,8 @@ use Prim.Native.Nat.{ℕ, zero, suc, _+_, _*_, _<_, _≤_}
 use native.Mathlib.Omega.{arith}
 use native.Mathlib.Numerals.{add-one}
 use native.Mathlib.Nat.{zero-mul, suc-mul, add-zero, add-suc, eq-or-lt-of-le, le-of-suc-le-suc}
-use Rattle.lova.specs.Tests.{all, every}
+use Rattle.integers.specs.Tests.{all}
+use Rattle.lova.specs.Tests.{every}
 
 -- of the numbers below n the first k pass
 abbrev pub Passed : ℕ → (ℕ → Bool) → ℕ → Type 0

@@ -8,10 +8,11 @@ use lib.ListN.{getD}
 use borrow.Author.Tests.{le-leb, not-true}
 use Rattle.integers.specs.Lists.{every}
 use Rattle.integers.proofs.Lists.{every-at}
+use Rattle.integers.specs.Ranges.{within, _to_, In}
 use Rattle.settings.specs.Rules.{firstOf}
-use Rattle.settings.specs.Settings.{Parameters, within, _to_, greatest, LOf, repunit, settingRefusal, refusedOf, checkedOf}
+use Rattle.settings.specs.Settings.{Parameters, greatest, LOf, repunit, settingRefusal, refusedOf, checkedOf}
 use Rattle.settings.specs.HouseList.{parameters, houseList, listedOf}
-use Rattle.settings.proofs.Refusals.{In, says-in}
+use Rattle.settings.proofs.Refusals.{says-in}
 use Rattle.settings.proofs.Accepted.{checked-accepted}
 
 -- row i, counted from 0

@@ -6,17 +6,14 @@ use mathlib.Core.List.{List, _++_}
 use Prim.Native.Nat.{ℕ, _≤_, _<_}
 use native.Mathlib.Nat.{lt-of-not-le}
 use native.Mathlib.Omega.{arith}
-use lib.Dec.{T, leb, leb→le, le→leb}
+use lib.Dec.{T, leb}
 use lib.ListN.{take, drop}
-use Rattle.integers.proofs.Tests.{and-fst, and-snd, and-both}
+use Rattle.integers.specs.Ranges.{Range, within, In}
+use Rattle.integers.proofs.Tests.{both, at-most, within-in}
 use Rattle.settings.specs.Rules.{Rule, firstOf}
-use Rattle.settings.specs.Settings.{Parameters, Range, within, Limits, limits, NOf, growthOf, widthOf, settingRules, settingRefusal}
+use Rattle.settings.specs.Settings.{Parameters, Limits, limits, NOf, growthOf, widthOf, settingRules, settingRefusal}
 use Rattle.settings.specs.Rules.{NoneApplies}
 use Rattle.settings.proofs.Rules.{skip-all, stop-all, none-applies, none-append, first-at}
-
--- x is in the range
-abbrev pub In : Range → ℕ → Type 0
-In r x = (r .low ≤ x) × (x ≤ r .high)
 
 -- n, m and t are in range
 pub record Sizes (l : Limits) (p : Parameters) : Type 0 where
@@ -55,15 +52,6 @@ pub record Says (c : Bool) (P Q : Type 0) : Type 0 where
 says : (c : Bool) (P Q : Type 0) → T c ↔ P → (P → ⊥) ↔ Q → Says c P Q
 says true P Q e f = record { passed = (λ q. e .0 tt, λ h. refl); applies = (λ q. absurd (false≢true q), λ n. absurd (f .1 n (e .0 tt))) }
 says false P Q e f = record { passed = (λ q. absurd (true≢false q), λ h. absurd (e .1 h)); applies = (λ q. f .0 (e .1), λ n. refl) }
-
-both : (a b : Bool) (P Q : Type 0) → T a ↔ P → T b ↔ Q → T (a && b) ↔ (P × Q)
-both a b P Q e f = (λ t. (e .0 (and-fst a b t), f .0 (and-snd a b t)), λ h. and-both a b (e .1 (h .0)) (f .1 (h .1)))
-
-at-most : (a b : ℕ) → T (leb a b) ↔ (a ≤ b)
-at-most a b = (leb→le a b, le→leb a b)
-
-within-in : (r : Range) (x : ℕ) → T (within r x) ↔ In r x
-within-in r x = both (leb (r .low) x) (leb x (r .high)) (r .low ≤ x) (x ≤ r .high) (at-most (r .low) x) (at-most x (r .high))
 
 -- the tests of the rules: of a range, of a limit, and of n, m and t together
 pub says-in : (r : Range) (x : ℕ) → Says (within r x) (In r x) (In r x → ⊥)

@@ -3,7 +3,8 @@ use mathlib.Core.Bool.{cond}
 use mathlib.Core.List.{List, [], _∷_}
 use Prim.Native.Nat.{ℕ, _-_}
 use lib.ListN.{length, getD}
-use Rattle.settings.specs.Settings.{Parameters, within, _to_, settingOf, acceptedOf, refusedOf}
+use Rattle.integers.specs.Ranges.{within, _to_}
+use Rattle.settings.specs.Settings.{Parameters, settingOf, acceptedOf, refusedOf}
 use Rattle.settings.specs.declared.Checked.{Checked}
 
 abbrev pub parameters : ℕ → ℕ → ℕ → ℕ → ℕ → Parameters

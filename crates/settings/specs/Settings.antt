@@ -5,6 +5,7 @@ use Prim.Native.Nat.{ℕ, zero, suc, _+_, _*_, _-_, _/_, _^_}
 use lib.Dec.{leb, ltb, eqb}
 use lib.ListN.{replicate}
 use Rattle.integers.specs.Lists.{build}
+use Rattle.integers.specs.Ranges.{Range, _to_, within}
 use Rattle.settings.specs.Rules.{Rule, _gives_, firstOf}
 use Rattle.settings.specs.declared.Setting.{Setting}
 use Rattle.settings.specs.declared.Checked.{Checked}
@@ -16,18 +17,6 @@ pub record Parameters : Type 0 where
   pub t : ℕ
   pub b : ℕ
   pub bound : ℕ
-
--- the whole numbers from `low` to `high`, both among them
-pub record Range : Type 0 where
-  pub low : ℕ
-  pub high : ℕ
-
-infix 25 _to_
-abbrev pub _to_ : ℕ → ℕ → Range
-_to_ l h = record { low = l; high = h }
-
-abbrev pub within : Range → ℕ → Bool
-within r x = leb (r .low) x && leb x (r .high)
 
 -- the limits of a setting: the ranges of the five numbers, the most columns, the greatest width
 pub record Limits : Type 0 where

@@ -1,17 +1,10 @@
 // The numbers that the limits of a setting compare, and the comparisons, on plain words.
 ghost use mathlib.Core.Path.{_≡_};
-ghost use mathlib.Core.Bool.{_&&_, cond};
+ghost use mathlib.Core.Bool.{cond};
 ghost use Prim.Native.Nat.{_+_, _-_, _*_, _^_, _≤_, _<_};
 ghost use lib.Dec.{leb, ltb};
 ghost use Rattle.integers.specs.Lists.{build};
 use crate::Setting;
-
-// Whether x is in the range from `low` to `high`.
-pub(crate) fn inside(x: u64, low: u64, high: u64) -> bool
-    ensures { λ r. ⌜ r ≡ (leb low x && leb x high) ⌝ }
-{
-    low <= x && x <= high
-}
 
 // The greatest l with b^(2l) at most B. The comparison is by division, since b^(2(l + 1)) takes up to 93 bits.
 pub(crate) fn level(b: u64, bound: u64) -> usize

@@ -1,7 +1,8 @@
 // The setting of a fold: its limits, the checking constructor and the house list.
 ghost use mathlib.Core.Path.{_≡_};
 ghost use mathlib.Core.Bool.{_&&_};
-ghost use Rattle.settings.specs.Settings.{within, limits, settingRefusal, parametersOf, refusedOf, checkedOf};
+ghost use Rattle.integers.specs.Ranges.{within};
+ghost use Rattle.settings.specs.Settings.{limits, settingRefusal, parametersOf, refusedOf, checkedOf};
 ghost use Rattle.settings.specs.HouseList.{parameters, listedOf};
 
 mod bounds;
@@ -272,7 +273,7 @@ impl Setting {
     pub fn listed(number: usize) -> Checked
         ensures { λ r. ⌜ r ≡ listedOf number ⌝ }
     {
-        if !bounds::inside(number as u64, 1, Setting::LISTED as u64) {
+        if !integers::inside(number as u64, 1, Setting::LISTED as u64) {
             return refused(12);
         }
         let setting = Setting::LIST[number - 1];
@@ -306,9 +307,9 @@ fn refused(number: u8) -> Checked
 fn sizes_inside(n: usize, m: usize, t: usize) -> bool
     ensures { λ r. ⌜ r ≡ (within (limits .n) n && within (limits .m) m && within (limits .t) t) ⌝ }
 {
-    bounds::inside(n as u64, Setting::MIN_N as u64, Setting::MAX_N as u64)
-        && bounds::inside(m as u64, Setting::MIN_M as u64, Setting::MAX_M as u64)
-        && bounds::inside(t as u64, Setting::MIN_T as u64, Setting::MAX_T as u64)
+    integers::inside(n as u64, Setting::MIN_N as u64, Setting::MAX_N as u64)
+        && integers::inside(m as u64, Setting::MIN_M as u64, Setting::MAX_M as u64)
+        && integers::inside(t as u64, Setting::MIN_T as u64, Setting::MAX_T as u64)
 }
 
 // The first of the refusals 1 to 6 that applies, or 0.
@@ -318,10 +319,10 @@ fn refusal(n: usize, m: usize, t: usize, b: u64, bound: u64) -> u8
     if !sizes_inside(n, m, t) {
         return 1;
     }
-    if !bounds::inside(b, Setting::MIN_B, Setting::MAX_B) {
+    if !integers::inside(b, Setting::MIN_B, Setting::MAX_B) {
         return 2;
     }
-    if !bounds::inside(bound, Setting::MIN_BOUND, Setting::MAX_BOUND) {
+    if !integers::inside(bound, Setting::MIN_BOUND, Setting::MAX_BOUND) {
         return 3;
     }
     let k = bounds::level(b, bound) + 2;

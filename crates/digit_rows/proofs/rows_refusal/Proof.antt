@@ -10,8 +10,8 @@ use lib.ListN.{length, getD, take, drop, replicate, getD-replicate}
 use lib.Seq.{length-take-le}
 use Rattle.integers.specs.Lists.{build}
 use Rattle.integers.proofs.Lists.{length-build}
+use Rattle.integers.specs.Tests.{all}
 use Rattle.matrices.proofs.Tables.{row-within}
-use Rattle.lova.specs.Tests.{all}
 use Rattle.lova.proofs.Numbers.{failed-test, passed-test, gives-number, gives-later, gives-none}
 use Rattle.digit_rows.specs.declared.Row.{Row}
 use Rattle.digit_rows.specs.Rows.{digitsAt, taken, rowTest, shortColumns, ruledEntries}

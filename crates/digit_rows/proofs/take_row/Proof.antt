@@ -11,11 +11,11 @@ use lib.Seq.{getD-set-other}
 use mir.Syntax.{w64}
 use mir.Val.{toZ, ofZ}
 use Rattle.integers.proofs.Lists.{Filled, filled-none, filled-more, filled-all}
+use Rattle.integers.specs.Tests.{all}
+use Rattle.integers.proofs.Tests.{all-none, all-more}
 use Rattle.matrices.proofs.Tables.{row-within}
 use Rattle.matrices.specs.declared.Left.{Left}
 use Rattle.matrices.specs.Lengths.{lessSquare}
-use Rattle.lova.specs.Tests.{all}
-use Rattle.lova.proofs.Tests.{all-none, all-more}
 use Rattle.digit_entries.specs.Entries.{entryOf, limit, clamped, followRule}
 use Rattle.digit_entries.proofs.Clamped.{read-clamped}
 use Rattle.digit_rows.specs.declared.Row.{Row}

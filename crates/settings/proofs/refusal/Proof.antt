@@ -6,9 +6,10 @@ use native.Mathlib.Omega.{arith}
 use native.Mathlib.Nat.{mul-le-mul}
 use lib.Dec.{leb}
 use borrow.Author.Needs.{needs}
+use Rattle.integers.specs.Ranges.{In}
 use Rattle.settings.specs.Settings.{Parameters, limits, LOf, kOf, NOf, growthOf, widthOf, repunit}
 use Rattle.settings.specs.HouseList.{parameters}
-use Rattle.settings.proofs.Refusals.{In, Sizes, Ranges, says-in, says-at-most, says-sizes, refusal-exactly}
+use Rattle.settings.proofs.Refusals.{Sizes, Ranges, says-in, says-at-most, says-sizes, refusal-exactly}
 use Rattle.settings.proofs.Levels.{L-is, k-high, powers-fit}
 use Rattle.settings.proofs.Powers.{repunit-by, repunit-low}
 use Rattle.settings.proofs.refusal.Statement.{statement}

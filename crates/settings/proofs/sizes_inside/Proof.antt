@@ -3,7 +3,7 @@ use mathlib.Core.Path.{_≡_, refl, sym, _∙_}
 use mathlib.Core.Logic.{⊎-elim}
 use mathlib.Core.Bool.{_&&_}
 use borrow.Author.Needs.{needs}
-use Rattle.settings.specs.Settings.{within, _to_}
+use Rattle.integers.specs.Ranges.{within, _to_}
 use Rattle.settings.proofs.sizes_inside.Statement.{statement}
 use Rattle.settings.proofs.sizes_inside.Tie as tie
 

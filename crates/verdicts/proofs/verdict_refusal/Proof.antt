@@ -9,11 +9,12 @@ use native.Mathlib.Nat.{mul-le-mul}
 use lib.Dec.{leb}
 use lib.IntN.{pos, natAbs}
 use lib.ListN.{getD}
+use Rattle.integers.specs.Tests.{all}
 use Rattle.matrices.specs.Tables.{entry}
 use Rattle.settings.specs.Rules.{firstOf}
 use Rattle.settings.specs.Settings.{Parameters, parametersOf, HOf}
 use Rattle.lova.specs.Stored.{Instance, Message, columnsOf, sentD~}
-use Rattle.lova.specs.Tests.{all, every, bounded, areTernary, countsJoin}
+use Rattle.lova.specs.Tests.{every, bounded, areTernary, countsJoin}
 use Rattle.lova.specs.Verdict.{verdictRulesAs}
 use Rattle.lova.proofs.Rebuilding.{rebuilt-accepted, N-is}
 use Rattle.lova.proofs.Tests.{mirrored-test}

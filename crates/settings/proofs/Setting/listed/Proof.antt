@@ -6,9 +6,10 @@ use native.Mathlib.Omega.{arith}
 use borrow.Author.Needs.{needs}
 use Rattle.integers.specs.Lists.{build}
 use Rattle.integers.proofs.Lists.{getD-map}
-use Rattle.settings.specs.Settings.{_to_, greatest, LOf, settingOf, acceptedOf}
+use Rattle.integers.specs.Ranges.{_to_, In}
+use Rattle.settings.specs.Settings.{greatest, LOf, settingOf, acceptedOf}
 use Rattle.settings.specs.HouseList.{parameters, houseList}
-use Rattle.settings.proofs.Refusals.{In, says-in}
+use Rattle.settings.proofs.Refusals.{says-in}
 use Rattle.settings.proofs.Accepted.{checked-accepted}
 use Rattle.settings.proofs.HouseList.{row, house-accepted, listed-inside, listed-outside}
 use Rattle.settings.proofs.Setting.listed.Statement.{statement}

@@ -1,7 +1,7 @@
--- `settings::bounds::inside` meets its contract: its two comparisons are those of `within`.
+-- `integers::inside` meets its contract: its two comparisons are those of `within`.
 use borrow.Author.Tests.{le-leb, lt-leb}
-use Rattle.settings.proofs.bounds.inside.Statement.{statement}
-use Rattle.settings.proofs.bounds.inside.Tie as tie
+use Rattle.integers.proofs.inside.Statement.{statement}
+use Rattle.integers.proofs.inside.Tie as tie
 
 returns : tie.Need-returns
 returns c = rw (le-leb _ _ (c .if1 .taken))
