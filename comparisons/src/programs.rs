@@ -16,15 +16,15 @@ type Feed = fn(&Path, &[u8], &mut Rng) -> io::Result<Output>;
 /// The ways to feed a program.
 pub const WAYS: [&str; 2] = ["by pieces", "by pipe"];
 
-/// The program with this name: `LOVA_` and the name, or else `target/bin` of the repository.
+/// The program with this name: `LOVA_` and the name, or else what `rt` leaves in the crate's folder `out`.
 pub fn program(name: &str) -> PathBuf {
     let package = PathBuf::from(env!("CARGO_MANIFEST_DIR"));
     let variable = format!("LOVA_{}", name.to_uppercase());
     let path = match env::var_os(&variable) {
         Some(path) => package.join(path),
-        None => package.join("../target/bin").join(name),
+        None => package.join("../crates").join(name).join("out").join(name),
     };
-    let ways = format!("build it with `rt check {name}`, or set {variable}");
+    let ways = format!("build it with `rt run` in crates/{name}, or set {variable}");
     assert!(path.is_file(), "no program at {}: {ways}", path.display());
     path
 }

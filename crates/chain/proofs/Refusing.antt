@@ -1,11 +1,9 @@
 -- What is kept after an answer: how a leaf and a fold are told from their calls, and what they tell a caller.
 use mathlib.Core.Path.{◌≡◌, refl, sym, ◌∙◌, ap}
 use mathlib.Core.Bool.{Bool, true, false, true≢false}
-use mathlib.Core.List.{List, [], ◌∷◌}
+use mathlib.Core.List.{List}
 use Prim.Native.Nat.{ℕ, zero, suc}
 use lib.IntN.{ℤ}
-use denote.Enum.Declared.{tag_of}
-use types.Run.{OneOf, miss}
 use Rattle.settings.specs.Rules.{first_of}
 use Rattle.settings.specs.Settings.{Parameters}
 use Rattle.lova.specs.declared.Verdict.{Verdict}
@@ -17,7 +15,6 @@ use Rattle.lova.specs.Commit.{commit_rules, instance_of, commit_in, commit}
 use Rattle.lova.specs.Message.{message}
 use Rattle.lova.specs.Verdict.{verdict}
 use Rattle.lova.specs.Witness.{witness}
-use Rattle.lova.specs.contracts.Verdict.{the_type}
 use Rattle.lova.proofs.Refusals.{ends_so}
 use Rattle.chain.specs.Nodes.{Node, node_of, blank_instance, blank_prepared, blank_node, unless_refusing, leaf_of, fold_answer, calls_of, fold_of}
 
@@ -28,17 +25,14 @@ node_same T T' D D' n n' S S' t d l s = rw (t, d, l, s) refl
 pub message-same : («V» V' : List ℤ) (T~ T' : List ℕ) (D~ D' : List ℤ) → «V» ≡ V' → T~ ≡ T' → D~ ≡ D' → ◌≡◌ {A = Message} (record { «V» = «V»; T~ = T~; D~ = D~ }) (record { «V» = V'; T~ = T'; D~ = D' })
 message-same «V» V' T~ T' D~ D' v t d = rw (v, t, d) refl
 
--- the places of the verdicts that are no refusal, as a `match` that names `Refused` alone tells them apart; they do not refuse
-abbrev pub passing : List ℕ
-passing = 0 ∷ 1 ∷ 2 ∷ 3 ∷ []
-
-pub passes_on : (v : Verdict) → OneOf passing (tag_of the_type v) → refuses (verdict_of v) ≡ false
+-- a verdict that is no refusal does not refuse
+pub passes_on : (v : Verdict) → ((r : ℕ) → v ≡ Verdicts.Refused r → ⊥) → refuses (verdict_of v) ≡ false
 unfolding refusal refuses verdict_of
 passes_on (Verdicts.Yes leaves) h = refl
 passes_on Verdicts.Long h = refl
 passes_on Verdicts.Norm h = refl
 passes_on Verdicts.Commitment h = refl
-passes_on (Verdicts.Refused r) h = absurd (miss passing (tag_of the_type (Verdicts.Refused r)) tt h)
+passes_on (Verdicts.Refused r) h = absurd (h r refl)
 
 -- the leaf count after an answer: the answer's, and with a refusal the one that was there
 module _ (a : Meaning) (leaves before : ℕ) where

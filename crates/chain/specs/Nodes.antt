@@ -5,7 +5,6 @@ use Rattle.lova.specs.Answers.{Meaning, Outcome, ends, refuses, count_after}
 use Rattle.lova.specs.declared.Profile.{Profile}
 use Rattle.lova.specs.declared.Profile.TheVariants.{General}
 use Rattle.lova.specs.Stored.{Instance, Counted, counted, Prepared, matrix_T, matrix_S, matrix_D, right_T, right_D, sent_V, sent_S~, sent_T~, sent_D~}
-use Rattle.lova.specs.Lent.{LentSlice}
 use Rattle.lova.specs.Calls.{Fits}
 use Rattle.lova.specs.Commit.{commit}
 use Rattle.lova.specs.Message.{message}
@@ -25,11 +24,11 @@ abbrev pub FitsNode : Parameters → Node → Type 0
 FitsNode p z = Fits (matrix_T p) z.instance.instance.T × Fits (matrix_D p) z.instance.instance.D × Fits (matrix_S p) z.witness
 
 -- the node that three lent slices hold, at entry and at exit, with this leaf count
-abbrev pub node_before : LentSlice ℕ → LentSlice ℤ → ℕ → LentSlice ℤ → Node
-node_before t d leaves s = node_of t.entry.now d.entry.now leaves s.entry.now
+abbrev pub node_before : List ℕ → List ℤ → ℕ → List ℤ → Node
+node_before t d leaves s = node_of t d leaves s
 
-abbrev pub node_after : LentSlice ℕ → LentSlice ℤ → ℕ → LentSlice ℤ → Node
-node_after t d leaves s = node_of t.exit.now d.exit.now leaves s.exit.now
+abbrev pub node_after : List ℕ → List ℤ → ℕ → List ℤ → Node
+node_after t d leaves s = node_of t d leaves s
 
 -- outputs of the stated lengths that hold zeros, as every call of a chain finds them; a chain has general calls alone
 abbrev pub blank_right : Parameters → Profile → Instance

@@ -1,4 +1,6 @@
 // The chain program's limits.
+#![tactic(auto)]
+
 ghost use Rattle.std.specs.Prelude.{◌≡◌};
 ghost use Rattle.settings.specs.Settings.{parameters_of};
 ghost use Rattle.lova.specs.Calls.{Rebuilt};

@@ -1,13 +1,11 @@
 // Runs the chain program on each stored file whose name is an argument.
-fn main() {
-    let count = os::arg_count();
-    let mut i: usize = 1;
-    while i < count {
-        let fd = stored_files::open(i);
-        if 0 <= fd {
-            driver::run(fd);
-            libc::close(fd);
+#![tactic(auto)]
+
+fn main(rt: HostRuntime) {
+    let count = stored_files::arg_count(&rt);
+    for i in 1..count {
+        if let Some(mut file) = stored_files::open(&rt, i) {
+            driver::run(&rt, &mut file);
         }
-        i += 1;
     }
 }

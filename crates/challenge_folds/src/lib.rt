@@ -1,6 +1,8 @@
 // The folds by a challenge, from its bytes: S' = S~ C; T' = T~ C modulo 2^64 with D' = C transposed times D~ times C.
 // The challenge is decoded once, into a local array. C has `left` rows and then `copies` blocks of `block` rows; S~, T~
 // and D~ have one column for the rows in the same place of each block, and those rows are added up.
+#![tactic(auto)]
+
 ghost use Rattle.std.specs.Prelude.{◌≡◌, ◌+◌, ◌*◌, ◌^◌, ◌≤◌, length};
 ghost use Rattle.matrices.specs.Matrices.{product, both_sides, contracted};
 ghost use Rattle.matrices.specs.Tables.{table, residues, signed, unsigned, challenge};

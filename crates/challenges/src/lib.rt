@@ -1,5 +1,7 @@
 // A challenge as a matrix of small signed numbers, by columns, the rows that meet the same column added up: what the
 // folds of T~, D~ and S~ multiply by, and a row of signed words times such a matrix.
+#![tactic(auto)]
+
 ghost use Rattle.std.specs.Prelude.{◌≡◌, ◌+◌, ◌*◌, ◌^◌, ◌<◌, ◌≤◌, length};
 ghost use Rattle.integers.specs.Lists.{build};
 ghost use Rattle.matrices.specs.Elements.{exactly, Added};

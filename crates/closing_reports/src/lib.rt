@@ -1,5 +1,7 @@
 // The line that the chain program prints for a refusal, written to the start of a buffer. It is printed for a line that
 // came and for one that is missing.
+#![tactic(auto)]
+
 ghost use Rattle.std.specs.Prelude.{◌≡◌, ◌≤◌, length, take};
 ghost use Rattle.chain.specs.Reports.{refused_line};
 

@@ -1,4 +1,6 @@
 // What the C functions share: the setting of five numbers, and the code of each answer.
+#![tactic(auto)]
+
 ghost use Rattle.std.specs.Prelude.{◌≡◌};
 ghost use Rattle.settings.specs.Settings.{parameters_of};
 ghost use Rattle.settings.specs.HouseList.{parameters};

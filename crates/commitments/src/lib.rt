@@ -1,4 +1,6 @@
 // Commit: T = A S modulo 2^64 and D = S-transposed S, for a witness S.
+#![tactic(auto)]
+
 ghost use Rattle.std.specs.Prelude.{◌≡◌, ◌&&◌};
 ghost use Rattle.settings.specs.Rules.{first_of};
 ghost use Rattle.settings.specs.Settings.{parameters_of};
@@ -25,7 +27,7 @@ fn commit_lengths(
     ensures { result
         ≡ (fits (matrix_A (parameters_of setting)) a.now
         && fits (right_S (parameters_of setting) profile) s.now
-        && fits_right (parameters_of setting) profile (instance_before t d)) }
+        && fits_right (parameters_of setting) profile (instance_before t.now d.now)) }
 {
     let right = profile.right(setting.t);
     a.len() == setting.n * setting.m
@@ -45,7 +47,7 @@ fn commit_refusal(
     requires { Rebuilt setting }
     ensures { result
         ≡ first_of (commit_rules (parameters_of setting) profile a.now s.now
-        (instance_before t d)) }
+        (instance_before t.now d.now)) }
 {
     if !commit_lengths(setting, profile, a, s, t, d) {
         return 7;
@@ -66,8 +68,8 @@ pub fn commit(
     t: &mut [u64],
     d: &mut [i64],
 ) -> Made
-    ensures { ends (made_of result) (counted (instance_after t d) (made_leaves result))
-        ≡ commit_in (parameters_of setting) profile a.now s.now (instance_before t d) }
+    ensures { ends (made_of result) (counted (instance_after t.new d.new) (made_leaves result))
+        ≡ commit_in (parameters_of setting) profile a.now s.now (instance_before t.old d.old) }
 {
     let checked = setting.rebuilt();
     let number = checked.refusal;

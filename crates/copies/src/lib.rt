@@ -1,4 +1,6 @@
 // Copies of rows, and laws about local arrays whose beginning is lent.
+#![tactic(auto)]
+
 ghost use Rattle.std.specs.Prelude.{◌≡◌, length};
 
 // Copies words.

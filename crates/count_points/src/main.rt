@@ -1,6 +1,8 @@
 // Runs a `c` line of the chain program in a run state that was given a leaf count, and writes what it prints; the check
 // compares that with `stdout`. No input of a size that can be read comes to the bound by itself. No contract can say
 // what is written, so the functions here promise only that they are safe and end.
+#![tactic(auto)]
+
 ghost use Rattle.std.specs.Prelude.{◌<◌, ◌^◌};
 ghost use Rattle.states.specs.Lent.{Sound};
 
@@ -9,15 +11,15 @@ use shown::print;
 use states::{Due, Run};
 
 // The first fold, the last that can be counted, and one more.
-fn main() {
-    print::text(b"Request 5: leaf counts\n");
-    challenged(1);
-    challenged(4294967294);
-    challenged(4294967295);
+fn main(rt: HostRuntime) {
+    print::text(&rt, b"Request 5: leaf counts\n");
+    challenged(&rt, 1);
+    challenged(&rt, 4294967294);
+    challenged(&rt, 4294967295);
 }
 
 // The `c` line of the printed example, with so many leaves under the accumulated node.
-fn challenged(under: u32) {
+fn challenged(rt: &impl Print, under: u32) {
     let checked = Setting::new(1, 1, 1, 2, 100);
     if checked.refusal != 0 {
         return;
@@ -34,13 +36,13 @@ fn challenged(under: u32) {
         under: under,
         setting: setting,
     };
-    print::number(b"leaves under the accumulated node ", under as u64);
-    print::text(b": ");
-    taken(run);
+    print::number(rt, b"leaves under the accumulated node ", under as u64);
+    print::text(rt, b": ");
+    taken(rt, run);
 }
 
 // What the line of this run prints.
-fn taken(run: Run)
+fn taken(rt: &impl Print, run: Run)
     requires { Sound run × (run.line < 2 ^ 62) }
 {
     let mut a = [3u64; 128];
@@ -63,5 +65,5 @@ fn taken(run: Run)
         &mut s2,
         &mut out,
     );
-    print::text(&out[..taken.length]);
+    print::text(rt, &out[..taken.length]);
 }

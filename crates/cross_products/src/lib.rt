@@ -1,5 +1,7 @@
 // The products of two witnesses' columns, exactly: V is S1 transposed times S2, and D is S transposed times S, which is
 // written as a square or as its lower triangle.
+#![tactic(auto)]
+
 ghost use Rattle.std.specs.Prelude.{◌≡◌, ℕ, ◌+◌, ◌*◌, ◌^◌, ◌≤◌, ◌<◌, pos, nat_abs, ◌+ℤ◌, ◌*ℤ◌, length, get_or};
 ghost use Rattle.integers.specs.Lists.{build};
 ghost use Rattle.matrices.specs.Matrices.{product, transposed, gram, sizes, Agree};

@@ -3,7 +3,7 @@
 use mathlib.Core.Path.{◌≡◌, refl, sym, ◌∙◌, ap, ap₂}
 use mathlib.Core.Bool.{true, false, true≢false}
 use mathlib.Core.Logic.{◌≢◌, ⊎_elim}
-use Prim.Native.Nat.{ℕ, zero, suc, ◌+◌, ◌*◌, ◌-◌, ◌/◌, ◌%◌, ◌^◌, ◌<◌, ◌≤◌}
+use Prim.Native.Nat.{ℕ, suc, ◌+◌, ◌*◌, ◌-◌, ◌/◌, ◌%◌, ◌^◌, ◌<◌, ◌≤◌}
 use native.Mathlib.Omega.{arith}
 use native.Mathlib.Nat.{one-mul, eq-or-lt_of_le, le_of_suc-le-suc, div-add-mod', mod-lt}
 use lib.Dec.{not_T}
@@ -11,12 +11,10 @@ use lib.IntN.{ℤ, pos, negsuc, neg_ℤ, nat_abs, ◌+ℤ◌, ◌-ℤ◌, ◌*�
 use lib.ListN.{length, get_or}
 use lib.Signed.{lt_z}
 use mathlib.Core.List.{List}
-use Rattle.integers.specs.Sums.{sum}
 use Rattle.integers.proofs.Ring.{diff, diff_eq, diff-pos, diff_neg, diff_cases, ring, as_diff, *ℤ-assoc}
 use Rattle.integers.proofs.Sizes.{nat_abs_negate, nat_abs-*}
 use Rattle.integers.proofs.Tests.{true-is, false-is, all_true, all_elim}
 use Rattle.integers.proofs.Sums.{sum_cong, sum_add, sum_negate, sum_mul_left}
-use Rattle.digits.specs.declared.Step.{Step}
 use Rattle.digits.specs.Digits.{step_of, rest_of, sign_of, digit_of}
 use Rattle.digits.proofs.Signs.{sign-size, sign-times, one-times, minus-one-times}
 use Rattle.digits.proofs.Steps.{step_cases}

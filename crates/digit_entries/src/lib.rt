@@ -1,4 +1,6 @@
 // The entry that digits stand for, and whether they are the digits that the rule gives for it.
+#![tactic(auto)]
+
 ghost use Rattle.std.specs.Prelude.{◌≡◌, ◌^◌, ◌<◌, ◌≤◌};
 ghost use Rattle.digit_entries.specs.Entries.{Digits, entry_of, limit, clamped, follow_rule};
 

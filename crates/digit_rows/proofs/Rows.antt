@@ -7,7 +7,7 @@ use Prim.Native.Nat.{ℕ, ◌+◌, ◌*◌, ◌-◌, ◌^◌, ◌<◌, ◌≤◌
 use native.Mathlib.Omega.{arith}
 use native.Mathlib.Nat.{mul-le-mul}
 use lib.Dec.{T, not_T, leb}
-use lib.IntN.{ℤ, pos, nat_abs}
+use lib.IntN.{ℤ, nat_abs}
 use lib.ListN.{length, get_or, take, drop, length-append, length-drop, get_or-append}
 use lib.Seq.{get_or-take}
 use borrow.Author.Tests.{lt-leb}
@@ -24,7 +24,7 @@ use Rattle.lova.specs.Tests.{every}
 use Rattle.lova.proofs.Numbers.{true-T}
 use Rattle.digit_entries.specs.Entries.{entry_of, limit, clamped, follow_rule}
 use Rattle.digit_entries.proofs.Clamped.{clamped-within, clamped-reaches}
-use Rattle.digit_rows.specs.Rows.{digits_at, read_at, taken, place, entry_at, short_columns, ruled_entries}
+use Rattle.digit_rows.specs.Rows.{digits_at, taken, place, entry_at, short_columns, ruled_entries}
 use Rattle.digit_rows.proofs.Blocks.{part-of-part}
 
 -- a square of at least limit² is above what is left of a word, and leaves nothing

@@ -1,5 +1,7 @@
 // The matrix that a digit witness ss stands for, in passes over its rows: k digits to an entry, `wide` entries to a
 // row. No entry is kept, so that each pass works them out anew.
+#![tactic(auto)]
+
 ghost use Rattle.std.specs.Prelude.{◌≡◌, ◌+◌, ◌*◌, ◌^◌, ◌<◌, ◌≤◌, length};
 ghost use Rattle.integers.specs.Lists.{build};
 ghost use Rattle.matrices.specs.Tables.{table};
@@ -9,7 +11,7 @@ ghost use Rattle.digit_rows.specs.Rows.{read_at, taken, row_test, place, rows_ru
 
 // Of a row: whether the squares of its entries were within what was left for their columns, and whether their digits
 // are those that the rule gives.
-#[derive(Drop)]
+#[derive(Clone, Copy)]
 pub struct Row {
     pub within: bool,
     pub ruled: bool,

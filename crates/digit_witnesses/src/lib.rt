@@ -1,4 +1,6 @@
 // The digit witness S~ of [S1 S2], written row by row.
+#![tactic(auto)]
+
 ghost use Rattle.std.specs.Prelude.{◌≡◌, ◌++◌, ◌+◌, ◌*◌, ◌≤◌, length};
 ghost use Rattle.matrices.specs.Tables.{table, signed};
 ghost use Rattle.settings.specs.Settings.{parameters_of, k_of};

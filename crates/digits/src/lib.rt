@@ -1,11 +1,13 @@
 // The digit writer: document 01's digit rule by arithmetic alone, so that no step goes by a digit or by a sign.
+#![tactic(auto)]
+
 ghost use Rattle.std.specs.Prelude.{◌≡◌, ◌*◌, ◌/◌, ◌^◌, ◌≤◌, ◌<◌, nat_abs, length};
 ghost use Rattle.digits.specs.Bases.{base_of, IsBase, InReach, AllInReach};
 ghost use Rattle.digits.specs.Digits.{step_of, sign_of, digits_of, row_digits};
 
 // A base b, and its reciprocal, by which sizes are divided: a product and a shift. The machine's own division may take
 // longer for one size than for another, and the compiler puts a test of the size before it.
-#[derive(Drop)]
+#[derive(Clone, Copy)]
 pub struct Base {
     pub b: u64,
     pub reciprocal: u64,
@@ -36,7 +38,7 @@ impl Base {
 }
 
 // One step of the rule: a digit, and what is left of the size.
-#[derive(Drop)]
+#[derive(Clone, Copy)]
 pub struct Step {
     pub digit: i64,
     pub rest: u64,

@@ -2,6 +2,8 @@
 //
 // The sum is a tree with no loop, a form that leaves the compiler free to multiply pairs of 16-bit numbers and add them
 // at once. A caller has one such sum in its innermost loop.
+#![tactic(auto)]
+
 ghost use Rattle.std.specs.Prelude.{◌≡◌, ◌*ℤ◌};
 ghost use Rattle.dots.specs.Dots.{dots, Reach};
 

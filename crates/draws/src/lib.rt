@@ -1,4 +1,6 @@
 // Draws of a test load, and the entries that are made of them.
+#![tactic(auto)]
+
 ghost use Rattle.std.specs.Prelude.{◌≡◌, ◌*◌, ◌^◌, ◌<◌, ◌≤◌, length, if◌then◌else◌, nat_le};
 ghost use Rattle.draws.specs.Draws.{next, after, drawn, word_of, challenge_of, witness_of, radius};
 

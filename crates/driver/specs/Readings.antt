@@ -1,5 +1,5 @@
 -- What a feed keeps after a part of a chunk.
-use Rattle.std.specs.Prelude.{List, ℕ, ◌+◌, ◌≤◌, ◌<◌, length}
+use Rattle.std.specs.Prelude.{List, ℕ, ◌+◌, ◌≤◌, ◌<◌}
 use Rattle.driver.specs.declared.feeds.Feed.{Feed}
 use Rattle.driver.specs.Feeds.{Steady}
 use Rattle.driver.specs.declared.readings.Fed.{Fed}

@@ -1,4 +1,4 @@
-// A chunk of input, fed, and what comes of it printed. What the system writes is assumed of libc.
+// A chunk of input, fed, and what comes of it printed. What the system writes is the library's part.
 ghost use Rattle.std.specs.Prelude.{◌≡◌, ◌+◌, ◌^◌, ◌≤◌, ◌<◌, length};
 ghost use Rattle.line_machines.specs.Machines.{feed_all};
 ghost use Rattle.chain.specs.Chain.{chain_machine};
@@ -8,14 +8,15 @@ ghost use Rattle.driver.specs.Feeds.{feeding_of, Steady};
 use crate::feeds::Feed;
 
 // Writes bytes to standard output, and says so on standard error where that fails.
-pub(crate) fn print(bytes: &[u8]) {
-    if !io::write_all(1, bytes) {
-        io::write_all(2, b"standard output cannot be written\n");
+pub(crate) fn print(rt: &(impl Print + Eprint), bytes: &[u8]) {
+    if rt.write_all(bytes).is_err() {
+        let _ = rt.eprint("standard output cannot be written\n");
     }
 }
 
 // Feeds a whole chunk, and prints what comes of it.
 pub(crate) fn feed_chunk(
+    rt: &(impl Print + Eprint),
     feed: Feed,
     chunk: &[u8],
     line: &mut [u8],
@@ -30,8 +31,9 @@ pub(crate) fn feed_chunk(
 ) -> Feed
     requires steady { Steady feed line.old × (feed.run.line + length chunk.now < 2 ^ 62) × Roomy out.old }
     requires lent { Lent (store a.old t1.old d1.old s1.old t2.old d2.old s2.old) }
-    ensures s2_after { feeding_of result line.new (store_after a t1 d1 s1 t2 d2 s2)
-        ≡ feed_all chain_machine (feeding_of feed line.old (store_before a t1 d1 s1 t2 d2 s2))
+    ensures s2_after { feeding_of result line.new (store_after a.new t1.new d1.new s1.new t2.new d2.new s2.new)
+        ≡ feed_all chain_machine
+        (feeding_of feed line.old (store_before a.old t1.old d1.old s1.old t2.old d2.old s2.old))
         chunk.now }
     ensures steady_2 { Steady result line.new
         × (result.run.line ≤ feed.run.line + length chunk.now) }
@@ -53,7 +55,7 @@ pub(crate) fn feed_chunk(
             out,
         );
         let length = fed.length;
-        print(&out[..length]);
+        print(rt, &out[..length]);
         at += fed.used;
         let next = fed.feed;
         current = next;

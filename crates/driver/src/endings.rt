@@ -29,7 +29,7 @@ pub(crate) fn end(
     requires lent_node { LentNode a.now (node_of t1.now d1.now 0 s1.now) }
     ensures whatever { Whatever
         (λ m. take result out.new
-        ≡ at_end (state_of state (with_first (node_before t1 d1 0 s1) (with_A a.now m)))
+        ≡ at_end (state_of state (with_first (node_before t1.now d1.now 0 s1.now) (with_A a.now m)))
         rest.now) }
     ensures upper_bound { result ≤ 512 }
 {

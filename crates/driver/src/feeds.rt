@@ -9,7 +9,7 @@ ghost use Rattle.driver.specs.Feeds.{feeding_of, Steady, Unfed};
 use states::{Due, Run};
 
 // The run state, and how many bytes of the line under way are in the line buffer.
-#[derive(Drop)]
+#[derive(Clone, Copy)]
 pub(crate) struct Feed {
     pub run: Run,
     pub length: usize,
@@ -43,7 +43,7 @@ impl Feed {
         ensures whatever { Whatever (λ m.
             take result out.new
             ≡ feed_end chain_machine (feeding_of self line.now
-            (with_first (node_before t1 d1 0 s1) (with_A a.now m)))) }
+            (with_first (node_before t1.now d1.now 0 s1.now) (with_A a.now m)))) }
         ensures upper_bound { result ≤ 512 }
     {
         let run = self.run;

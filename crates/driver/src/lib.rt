@@ -1,5 +1,7 @@
-// The whole program over a descriptor. Every program that runs a chain calls `run`. What the system reads and writes is
-// assumed of libc; what is done with the bytes is proved.
+// The whole program over a reader. Every program that runs a chain calls `run`. What the system reads and writes is the
+// library's part; what is done with the bytes is proved.
+#![tactic(auto)]
+
 ghost use Rattle.std.specs.Prelude.{◌^◌, ◌<◌};
 ghost use Rattle.chain.specs.Nodes.{node_of};
 ghost use Rattle.states.specs.Lent.{LentNode, Roomy};
@@ -12,13 +14,15 @@ mod last_line;
 mod readings;
 
 use feeds::Feed;
+use std::io::Read;
 
 // How many chunks are read at most: 2^61 bytes.
 const CHUNKS: u64 = 35184372088832;
 
 // Prints the last line, or says on standard error that the input could not be read.
 fn finish(
-    got: isize,
+    rt: &(impl Print + Eprint),
+    failed: bool,
     feed: Feed,
     line: &[u8],
     a: &[u64],
@@ -30,16 +34,16 @@ fn finish(
     requires steady { Steady feed line.now × (feed.run.line < 2 ^ 62) × Roomy out.old }
     requires lent_node { LentNode a.now (node_of t1.now d1.now 0 s1.now) }
 {
-    if got < 0 {
-        io::write_all(2, b"the input cannot be read\n");
+    if failed {
+        let _ = rt.eprint("the input cannot be read\n");
         return;
     }
     let last = feed.end(line, a, t1, d1, s1, out);
-    chunks::print(&out[..last]);
+    chunks::print(rt, &out[..last]);
 }
 
-// Runs the chain on what a descriptor gives, up to its end or to the first line that is refused.
-pub fn run(fd: i32) {
+// Runs the chain on what a reader gives, up to its end or to the first line that is refused.
+pub fn run<R: Read>(rt: &(impl Print + Eprint), reader: &mut R) {
     let mut line = [0u8; 4096];
     let mut a = [0u64; 128];
     let mut t1 = [0u64; 16];
@@ -49,17 +53,19 @@ pub fn run(fd: i32) {
     let mut d2 = [0i64; 4];
     let mut s2 = [0i64; 32];
     let mut out = [0u8; 512];
-    let mut chunk = io::large_buffer();
+    let mut chunk = [0u8; 65536];
     let mut feed = Feed::new();
     let mut turns: u64 = 0;
     while turns < CHUNKS {
-        let got = libc::read(fd, &mut chunk);
-        let n = io::count(got, &chunk);
+        let got = reader.read(&mut chunk);
+        let failed = got.is_err();
+        let n = got.unwrap_or(0);
         if n == 0 {
-            finish(got, feed, &line, &a, &t1, &d1, &s1, &mut out);
+            finish(rt, failed, feed, &line, &a, &t1, &d1, &s1, &mut out);
             return;
         }
         feed = chunks::feed_chunk(
+            rt,
             feed,
             &chunk[..n],
             &mut line,
@@ -77,5 +83,5 @@ pub fn run(fd: i32) {
         }
         turns += 1;
     }
-    io::write_all(2, b"the input is too long\n");
+    let _ = rt.eprint("the input is too long\n");
 }

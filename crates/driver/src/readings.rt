@@ -9,7 +9,7 @@ ghost use Rattle.driver.specs.Readings.{FedWithin};
 use crate::feeds::Feed;
 
 // The feed after a part of a chunk: how many bytes of the chunk were used, and how many bytes of output came of them.
-#[derive(Drop)]
+#[derive(Clone, Copy)]
 pub(crate) struct Fed {
     pub feed: Feed,
     pub used: usize,
@@ -32,11 +32,13 @@ pub(crate) fn read(
 ) -> Fed
     requires steady { Steady feed line.old × (feed.run.line < 2 ^ 62) × Roomy out.old }
     requires lent { Lent (store a.old t1.old d1.old s1.old t2.old d2.old s2.old) }
-    ensures s2_after { feeding_of result.feed line.new (store_after a t1 d1 s1 t2 d2 s2)
-        ≡ feed_all chain_machine (feeding_of feed line.old (store_before a t1 d1 s1 t2 d2 s2))
+    ensures s2_after { feeding_of result.feed line.new (store_after a.new t1.new d1.new s1.new t2.new d2.new s2.new)
+        ≡ feed_all chain_machine
+        (feeding_of feed line.old (store_before a.old t1.old d1.old s1.old t2.old d2.old s2.old))
         (take result.used chunk.now) }
     ensures out_after { take result.length out.new
-        ≡ feed_output chain_machine (feeding_of feed line.old (store_before a t1 d1 s1 t2 d2 s2))
+        ≡ feed_output chain_machine
+        (feeding_of feed line.old (store_before a.old t1.old d1.old s1.old t2.old d2.old s2.old))
         (take result.used chunk.now) }
     ensures fed_within { FedWithin result feed line.new (length chunk.now) }
 {

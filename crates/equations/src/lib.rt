@@ -1,4 +1,6 @@
 // The verdict's two equations: whether a message's D~ and T~, times the gadget G, make the joined D and T.
+#![tactic(auto)]
+
 ghost use Rattle.std.specs.Prelude.{◌≡◌, ◌+◌, ◌*◌, ◌<◌, ◌≤◌, eqb, length};
 ghost use Rattle.integers.specs.Residues.{word};
 ghost use Rattle.matrices.specs.Matrices.{product, both_sides};

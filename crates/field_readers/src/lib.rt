@@ -1,4 +1,6 @@
 // The numbers of a line of fields, read.
+#![tactic(auto)]
+
 ghost use Rattle.std.specs.Prelude.{◌≡◌, length};
 ghost use Rattle.text.specs.Fields.{record_of, read_u64, read_i64, answer_of};
 

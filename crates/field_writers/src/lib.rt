@@ -1,4 +1,6 @@
 // Bytes, and numbers as fields, written to a lent buffer.
+#![tactic(auto)]
+
 ghost use Rattle.std.specs.Prelude.{◌≡◌, [], ◌∷◌, map, ◌+◌, ◌*◌, ◌≤◌, length};
 ghost use Rattle.numerals.specs.Bytes.{written};
 ghost use Rattle.numerals.specs.Numerals.{decimal, decimal_Z};

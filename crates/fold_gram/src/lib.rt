@@ -2,6 +2,8 @@
 // triangle. Only the triangle is summed: let L have D's entries below the diagonal twice, those on it once and zeros
 // above it. L + L transposed is 2 D, so where N is C transposed times L times C, what is wanted is half of N + N
 // transposed.
+#![tactic(auto)]
+
 ghost use Rattle.std.specs.Prelude.{◌≡◌, ◌+◌, ◌*◌, ◌^◌, ◌<◌, ◌≤◌, length};
 ghost use Rattle.integers.specs.Lists.{build};
 ghost use Rattle.matrices.specs.Matrices.{product, transposed, both_sides};

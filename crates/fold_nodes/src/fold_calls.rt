@@ -43,9 +43,9 @@ pub(crate) fn calls(
 ) -> Verdict
     requires rebuilt { Rebuilt setting }
     requires setting_value { small program_limits (parameters_of setting) ≡ true }
-    ensures { ends (verdict_of result) (node_after t d (verdict_leaves result) s)
-        ≡ calls_of (parameters_of setting) a.now (node_before t1 d1 leaves1 s1)
-        (node_before t2 d2 leaves2 s2) c.now (node_before t d 0 s) }
+    ensures { ends (verdict_of result) (node_after t.new d.new (verdict_leaves result) s.new)
+        ≡ calls_of (parameters_of setting) a.now (node_before t1.now d1.now leaves1 s1.now)
+        (node_before t2.now d2.now leaves2 s2.now) c.now (node_before t.old d.old 0 s.old) }
 {
     let mut v = [0i64; 4];
     let mut tt = [0u64; 256];

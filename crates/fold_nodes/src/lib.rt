@@ -1,5 +1,7 @@
 // A fold of two nodes of a chain. Settings are those that the chain program takes, so that all matrices stand in local
 // arrays.
+#![tactic(auto)]
+
 ghost use Rattle.std.specs.Prelude.{◌≡◌, true};
 ghost use Rattle.settings.specs.Settings.{parameters_of};
 ghost use Rattle.lova.specs.Answers.{ends, verdict_of, verdict_leaves, refuses, count_after};
@@ -40,9 +42,10 @@ pub fn fold(
     requires rebuilt { Rebuilt setting }
     requires setting_value { small program_limits (parameters_of setting) ≡ true }
     requires fits_node { FitsNode (parameters_of setting) (node_of t1.old d1.old leaves1 s1.old) }
-    ensures { ends (verdict_of result) (node_after t1 d1 (count_after (verdict_of result) (verdict_leaves result) leaves1) s1)
-        ≡ fold_of (parameters_of setting) a.now (node_before t1 d1 leaves1 s1)
-        (node_before t2 d2 leaves2 s2) c.now }
+    ensures { ends (verdict_of result) (node_after t1.new d1.new
+        (count_after (verdict_of result) (verdict_leaves result) leaves1) s1.new)
+        ≡ fold_of (parameters_of setting) a.now (node_before t1.old d1.old leaves1 s1.old)
+        (node_before t2.now d2.now leaves2 s2.now) c.now }
 {
     let mut t = [0u64; 16];
     let mut d = [0i64; 4];

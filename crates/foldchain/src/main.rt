@@ -1,4 +1,6 @@
 // The chain program: standard input to standard output.
-fn main() {
-    driver::run(libc::STDIN_FILENO);
+#![tactic(auto)]
+
+fn main(rt: HostRuntime) {
+    driver::run(&rt, &mut rt.reader());
 }

@@ -1,5 +1,7 @@
 // The load program: standard input to standard output.
-fn main() {
-    let mut input = io::large_buffer();
-    load_runs::run(libc::STDIN_FILENO, &mut input);
+#![tactic(auto)]
+
+fn main(rt: HostRuntime) {
+    let mut input = [0u8; 65536];
+    load_runs::run(&rt, &mut rt.reader(), &mut input);
 }

@@ -1,4 +1,6 @@
 // The groups that share a machine.
+#![tactic(auto)]
+
 ghost use Rattle.std.specs.Prelude.{◌≡◌};
 ghost use Rattle.groups.specs.Groups.{is_group};
 

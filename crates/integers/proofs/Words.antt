@@ -1,5 +1,5 @@
 -- Signed words: what a test against 0 tells, −1 − s of a negative s, and a word by its size and its sign.
-use Rattle.std.proofs.Common.{◌≡◌, ℕ, suc, ◌-◌, ◌*◌, ◌^◌, ◌<◌, ◌≤◌, Bool, true, false, T, ℤ, pos, negsuc, ◌+ℤ◌, ◌-ℤ◌, ◌*ℤ◌, neg_ℤ, nat_abs, sym, refl, ap, ◌∙◌, subst, ap₂, arith, w64, Fits, SFits, to_z, of_z, ltb-true, le-leb}
+use Rattle.std.proofs.Common.{◌≡◌, ℕ, suc, ◌*◌, ◌^◌, ◌<◌, ◌≤◌, Bool, true, false, T, ℤ, pos, negsuc, ◌+ℤ◌, ◌-ℤ◌, ◌*ℤ◌, neg_ℤ, nat_abs, sym, refl, ap, ◌∙◌, subst, ap₂, arith, w64, Fits, SFits, to_z, of_z, ltb-true, le-leb}
 use lib.IntN.{pred_ℤ, pred_ℤ-+ℤ, +ℤ_idl, pos-ne-negsuc}
 use lib.Signed.{lt_z, non_neg}
 use borrow.Author.Tests.{lt-leb}

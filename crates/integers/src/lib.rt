@@ -1,4 +1,6 @@
 // Words of 64 bits: the wrapping product, signed words by size, residue and sign, and ranges.
+#![tactic(auto)]
+
 ghost use Rattle.std.specs.Prelude.{◌≡◌, ◌*◌, ◌%◌, ◌^◌, unsigned_abs};
 ghost use Rattle.integers.specs.Residues.{word};
 ghost use Rattle.integers.specs.Words.{signed_word};
@@ -36,7 +38,7 @@ pub fn residue(s: i64) -> u64
 }
 
 // A signed word, or that there is none.
-#[derive(Drop)]
+#[derive(Clone, Copy)]
 pub enum Signed {
     Word(i64),
     TooLarge,

@@ -1,4 +1,6 @@
 // Join: [T1 T2] and [D1 V; V-transposed D2], written out; n by 2t and 2t by 2t in both profiles.
+#![tactic(auto)]
+
 ghost use Rattle.std.specs.Prelude.{◌≡◌};
 ghost use Rattle.settings.specs.Rules.{first_of};
 ghost use Rattle.settings.specs.Settings.{parameters_of};
@@ -18,7 +20,7 @@ use settings::Setting;
 // Whether t and d have the lengths of the joined T and D.
 fn joined_fits(setting: Setting, t: &[u64], d: &[i64]) -> bool
     requires { Rebuilt setting }
-    ensures { result ≡ fits_joined (parameters_of setting) (instance_before t d) }
+    ensures { result ≡ fits_joined (parameters_of setting) (instance_before t.now d.now) }
 {
     let wide = 2 * setting.t;
     t.len() == setting.n * wide && d.len() == wide * wide
@@ -40,8 +42,8 @@ fn join_refusal(
 ) -> u8
     requires { Rebuilt setting }
     ensures { result
-        ≡ first_of (join_rules (parameters_of setting) profile (counted (instance_before t1 d1) leaves1)
-        (counted (instance_before t2 d2) leaves2) v.now (instance_before t d)) }
+        ≡ first_of (join_rules (parameters_of setting) profile (counted (instance_before t1.now d1.now) leaves1)
+        (counted (instance_before t2.now d2.now) leaves2) v.now (instance_before t.now d.now)) }
 {
     if !scans::instance_fits(setting, Profile::General, t1, d1) {
         return 7;
@@ -76,9 +78,9 @@ pub fn join(
     t: &mut [u64],
     d: &mut [i64],
 ) -> Made
-    ensures { ends (made_of result) (counted (instance_after t d) (made_leaves result))
-        ≡ join_in (parameters_of setting) profile (counted (instance_before t1 d1) leaves1)
-        (counted (instance_before t2 d2) leaves2) v.now (instance_before t d) }
+    ensures { ends (made_of result) (counted (instance_after t.new d.new) (made_leaves result))
+        ≡ join_in (parameters_of setting) profile (counted (instance_before t1.now d1.now) leaves1)
+        (counted (instance_before t2.now d2.now) leaves2) v.now (instance_before t.old d.old) }
 {
     let checked = setting.rebuilt();
     let number = checked.refusal;

@@ -1,4 +1,6 @@
 // Bytes of input, cut at the end of the line under way.
+#![tactic(auto)]
+
 ghost use Rattle.std.specs.Prelude.{◌≡◌, ◌+◌, ◌≤◌, length, take};
 ghost use Rattle.line_machines.specs.Machines.{longest_line};
 ghost use Rattle.line_machines.specs.Cuts.{cut_to, cut_of, CutWithin};
@@ -7,7 +9,7 @@ ghost use Rattle.line_machines.specs.Cuts.{cut_to, cut_of, CutWithin};
 pub const LONGEST_LINE: usize = 4095;
 
 // How far a chunk was read: how many bytes of it, how long the line is so far, and whether the line has ended.
-#[derive(Drop)]
+#[derive(Clone, Copy)]
 pub struct Cut {
     pub used: usize,
     pub length: usize,

@@ -1,27 +1,16 @@
 -- What is due, told: a line, or nothing.
 use mathlib.Core.Path.{◌≡◌, refl, sym, ◌∙◌, ap, subst}
 use mathlib.Core.Bool.{true, false}
-use mathlib.Core.List.{List, [], ◌∷◌, ◌++◌}
+use mathlib.Core.List.{List, [], ◌++◌}
 use Prim.Native.Nat.{ℕ, zero, suc}
 use native.Mathlib.Omega.{arith}
 use lib.Dec.{T}
 use lib.ListN.{take}
-use denote.Enum.Declared.{tag_of}
-use types.Run.{OneOf, miss}
 use Rattle.settings.specs.Settings.{Parameters, parameters_of}
-use Rattle.load_files.specs.Pending.{bytes_from, to_come, is_over, leaf_due, SetFor, Sound, SoundFor, Puts}
+use Rattle.load_files.specs.Pending.{bytes_from, to_come, is_over, leaf_due, SetFor, SoundFor, Puts}
 use Rattle.load_files.specs.declared.Due.{Due}
 use Rattle.load_files.specs.declared.Due.TheVariants as Dues
 use Rattle.load_files.specs.declared.Pending.{Pending}
-use Rattle.load_files.specs.declared.Line.{Line}
-use Rattle.load_files.specs.contracts.Due.{the_type}
-
--- what is set for it, and what was put
-pub sound_for : (q : Pending) (u : Due) → q.due ≡ u → Sound q → SoundFor u q
-sound_for q u e s = subst (λ (d : Due). SoundFor d q) e s
-
-pub puts_for : (q : Pending) (u : Due) (at : ℕ) (r : Line) (d e : List ℕ) → q.due ≡ u → Puts u q at r d e → Puts q.due q at r d e
-puts_for q u at r d e told put = subst (λ (v : Due). Puts v q at r d e) (sym told) put
 
 -- where nothing is due nothing is written
 pub nothing_put : (q : Pending) (at : ℕ) (d : List ℕ) → q.due ≡ Dues.Nothing → Puts q.due q at (record { pending = q; at = at }) d d
@@ -53,11 +42,7 @@ nothing-comes q o = nothing-from q.due (parameters_of q.setting) q.left q.state 
 pub none_filled : (at : ℕ) (out : List ℕ) (q r : Pending) → take at out ++ to_come q ≡ to_come r → is_over q.due ≡ true → at ≡ 0 → to_come r ≡ []
 none_filled at out q r bytes o e = sym bytes ∙ rw (e, nothing-comes q o) refl
 
--- the places in `Due` before `Nothing`
-abbrev pub before-nothing : List ℕ
-before-nothing = 0 ∷ 1 ∷ 2 ∷ 3 ∷ 4 ∷ 5 ∷ []
-
-pub not-over : (d : Due) → OneOf before-nothing (tag_of the_type d) → is_over d ≡ false
+pub not-over : (d : Due) → (d ≡ Dues.Nothing → ⊥) → is_over d ≡ false
 unfolding is_over
 not-over (Dues.Refusal line number) h = refl
 not-over Dues.Param h = refl
@@ -65,7 +50,7 @@ not-over Dues.Matrix h = refl
 not-over Dues.First h = refl
 not-over Dues.Leaf h = refl
 not-over Dues.Challenge h = refl
-not-over Dues.Nothing h = absurd (miss before-nothing (tag_of the_type Dues.Nothing) tt h)
+not-over Dues.Nothing h = absurd (h refl)
 
 pub leaf-left : (left : ℕ) → (left ≡ 0 → ⊥) → Dues.Leaf ≡ leaf_due left
 unfolding leaf_due

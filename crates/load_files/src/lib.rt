@@ -1,4 +1,6 @@
 // The chain file of a load, written block by block into a lent buffer. What is still to be printed goes by value.
+#![tactic(auto)]
+
 ghost use Rattle.std.specs.Prelude.{◌≡◌, true, not, [], ◌++◌, ◌+◌, ◌≤◌, length, take};
 ghost use Rattle.settings.specs.Settings.{parameters_of};
 ghost use Rattle.lova.specs.Calls.{Rebuilt};
@@ -12,7 +14,7 @@ ghost use Rattle.load_files.specs.declared.Due.TheVariants as Dues;
 use settings::Setting;
 
 // The line that is due: a refusal's, with the number of the input line and its own, or one of the file.
-#[derive(Drop)]
+#[derive(Clone, Copy)]
 pub enum Due {
     Refusal(u64, u8),
     Param,
@@ -25,7 +27,7 @@ pub enum Due {
 
 // What is still to be printed: the line that is due, the setting with its radius, how many pairs of a leaf and a
 // challenge are left, and the state from which it is drawn.
-#[derive(Drop)]
+#[derive(Clone, Copy)]
 pub struct Pending {
     pub due: Due,
     pub setting: Setting,
@@ -35,7 +37,7 @@ pub struct Pending {
 }
 
 // What is still to be printed, and how many bytes of it stand at the buffer's start.
-#[derive(Drop)]
+#[derive(Clone, Copy)]
 pub struct Filled {
     pub pending: Pending,
     pub length: usize,
@@ -45,7 +47,7 @@ pub struct Filled {
 const LONGEST: usize = 2690;
 
 // What is still to be printed, and the place past a line that was written.
-#[derive(Drop)]
+#[derive(Clone, Copy)]
 struct Line {
     pending: Pending,
     at: usize,

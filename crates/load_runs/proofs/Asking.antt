@@ -10,6 +10,8 @@ use lib.ListN.{get_or}
 use Rattle.integers.proofs.Tests.{and_fst}
 use Rattle.integers.specs.Ranges.{◌to◌, within}
 use Rattle.settings.specs.Settings.{Parameters}
+use Rattle.text.specs.Fields.{answer_of}
+use Rattle.text.proofs.Fields.{answer_yes, answer_no}
 use Rattle.line_machines.specs.Machines.{Step}
 use Rattle.loads.specs.Loads.{State, end, most_loaded, next, refuse, on_load}
 use Rattle.load_runs.specs.Inputs.{asked_of}
@@ -37,6 +39,20 @@ module _ (o : Option (List ℕ)) where
     pub asked-load : 1 ≤ get_or xs 0 0 → get_or xs 0 0 ≤ most_loaded → Asks.Load (get_or xs 0 0) (get_or xs 1 0) ≡ asked_of o
     unfolding asked_of
     asked-load l h = rw (read, le-leb 1 (get_or xs 0 0) l, le-leb (get_or xs 0 0) most_loaded h) refl
+
+-- the same, by what `read_u64s` answered: r, and the numbers xs
+module _ (r : Bool) (xs : List ℕ) (o : Option (List ℕ)) where
+  pub unread_bad : answer_of r xs ≡ o → r ≡ false → Asks.Bad ≡ asked_of o
+  unread_bad e h = asked-unread o (answer_no r xs o e h)
+
+  pub none_bad : answer_of r xs ≡ o → r ≡ true → get_or xs 0 0 < 1 → Asks.Bad ≡ asked_of o
+  none_bad e h = asked-none o xs (answer_yes r xs o e h)
+
+  pub many_bad : answer_of r xs ≡ o → r ≡ true → 1 ≤ get_or xs 0 0 → most_loaded < get_or xs 0 0 → Asks.Bad ≡ asked_of o
+  many_bad e h = asked_many o xs (answer_yes r xs o e h)
+
+  pub load_read : answer_of r xs ≡ o → r ≡ true → 1 ≤ get_or xs 0 0 → get_or xs 0 0 ≤ most_loaded → Asks.Load (get_or xs 0 0) (get_or xs 1 0) ≡ asked_of o
+  load_read e h = asked-load o xs (answer_yes r xs o e h)
 
 -- ---- as it is answered
 

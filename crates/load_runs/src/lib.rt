@@ -1,5 +1,7 @@
-// The load program: what is printed for the bytes of an input, and the whole program over a descriptor. What the system
-// reads and writes is assumed of libc; what is done with the bytes is proved.
+// The load program: what is printed for the bytes of an input, and the whole program over a reader. What the system
+// reads and writes is the library's part; what is done with the bytes is proved.
+#![tactic(auto)]
+
 ghost use Rattle.std.specs.Prelude.{◌≡◌, true, ◌≤◌, length};
 ghost use Rattle.settings.specs.Settings.{parameters_of};
 ghost use Rattle.lova.specs.Calls.{Rebuilt};
@@ -15,9 +17,10 @@ mod records;
 use load_files::Pending;
 use records::Asked;
 use settings::Setting;
+use std::io::Read;
 
 // How a run ended: all was printed, the input could not be read, or standard output not be written.
-#[derive(Drop)]
+#[derive(Clone, Copy)]
 pub enum Ending {
     Whole,
     Unread,
@@ -25,7 +28,7 @@ pub enum Ending {
 }
 
 // How a run ended, how many bytes it read into the buffer, and what it has left to be printed.
-#[derive(Drop)]
+#[derive(Clone, Copy)]
 pub struct Ran {
     pub ending: Ending,
     pub read: usize,
@@ -33,7 +36,7 @@ pub struct Ran {
 }
 
 // What was read: how many bytes, and whether a read failed.
-#[derive(Drop)]
+#[derive(Clone, Copy)]
 struct Input {
     pub length: usize,
     pub failed: bool,
@@ -92,17 +95,18 @@ pub fn load_of(input: &[u8]) -> Pending
 
 // Reads up to the end of the input, or until the buffer is full: as many bytes as two lines have, and one more, decide
 // what is printed.
-fn read_input(fd: i32, input: &mut [u8]) -> Input
+fn read_input<R: Read>(reader: &mut R, input: &mut [u8]) -> Input
     ensures { result.length ≤ length input.new }
 {
     let mut length: usize = 0;
     while length < input.len() {
-        let got = libc::read(fd, &mut input[length..]);
-        let n = io::count(got, &input[length..]);
+        let got = reader.read(&mut input[length..]);
+        let failed = got.is_err();
+        let n = got.unwrap_or(0);
         if n == 0 {
             return Input {
                 length: length,
-                failed: got < 0,
+                failed: failed,
             };
         }
         length += n;
@@ -113,23 +117,23 @@ fn read_input(fd: i32, input: &mut [u8]) -> Input
     }
 }
 
-// Runs the load program on what a descriptor gives; the buffer has room for two lines and one byte more.
-pub fn run(fd: i32, input: &mut [u8]) -> Ran
+// Runs the load program on what a reader gives; the buffer has room for two lines and one byte more.
+pub fn run<R: Read>(rt: &(impl Print + Eprint), reader: &mut R, input: &mut [u8]) -> Ran
     requires { enough_bytes ≤ length input.old }
     ensures { RanOn result input.new }
 {
-    let got = read_input(fd, input);
+    let got = read_input(reader, input);
     let length = got.length;
     let pending = load_of(&input[..length]);
     if got.failed {
-        io::write_all(2, b"the input cannot be read\n");
+        let _ = rt.eprint("the input cannot be read\n");
         return Ran {
             ending: Ending::Unread,
             read: length,
             rest: pending,
         };
     }
-    let printed = printing::print_all(pending);
+    let printed = printing::print_all(rt, pending);
     let ending = printed.ending;
     let rest = printed.rest;
     Ran {

@@ -7,7 +7,7 @@ use crate::Ending;
 use load_files::Pending;
 
 // How printing ended, and what is left to be printed.
-#[derive(Drop)]
+#[derive(Clone, Copy)]
 pub(crate) struct Printed {
     pub ending: Ending,
     pub rest: Pending,
@@ -22,7 +22,7 @@ fn file_buffer() -> [u8; 524288]
 }
 
 // Prints all that is to come. The first write that fails ends it, with a sentence on standard error.
-pub(crate) fn print_all(pending: Pending) -> Printed
+pub(crate) fn print_all(rt: &(impl Print + Eprint), pending: Pending) -> Printed
     requires { Sound pending }
     ensures { PrintedOf result (to_come pending) }
 {
@@ -37,8 +37,8 @@ pub(crate) fn print_all(pending: Pending) -> Printed
                 rest: rest,
             };
         }
-        if !io::write_all(1, &out[..length]) {
-            io::write_all(2, b"standard output cannot be written\n");
+        if rt.write_all(&out[..length]).is_err() {
+            let _ = rt.eprint("standard output cannot be written\n");
             return Printed {
                 ending: Ending::Unwritten,
                 rest: rest,

@@ -5,13 +5,14 @@ ghost use Rattle.loads.specs.Loads.{load_word};
 ghost use Rattle.load_runs.specs.Inputs.{asked_of};
 
 // What a `load` line asks for: a leaf count and a seed.
-#[derive(Drop)]
+#[derive(Clone, Copy)]
 pub(crate) enum Asked {
     Load(u64, u64),
     Bad,
 }
 
 // The leaf count and the seed of a `load` line.
+#[tactic(auto, using(crate::proofs::Asking::unread_bad, crate::proofs::Asking::none_bad, crate::proofs::Asking::many_bad, crate::proofs::Asking::load_read))]
 pub(crate) fn read_load(line: &[u8]) -> Asked
     ensures { result ≡ asked_of (record_of read_u64 load_word 2 line.now) }
 {

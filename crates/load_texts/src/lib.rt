@@ -1,4 +1,6 @@
 // The lines of a load's file, written to a lent buffer.
+#![tactic(auto)]
+
 ghost use Rattle.std.specs.Prelude.{◌≡◌, ◌++◌, ◌+◌, ◌≤◌, ◌<◌, length, take};
 ghost use Rattle.settings.specs.Settings.{parameters_of};
 ghost use Rattle.loads.specs.Files.{param_text, matrix_text, witness_text, challenge_text, after_A, after_S, after_C};
@@ -7,7 +9,7 @@ ghost use Rattle.load_texts.specs.Texts.{Set, longest_text};
 use settings::Setting;
 
 // The place past a line that was written, and the state after its draws.
-#[derive(Drop)]
+#[derive(Clone, Copy)]
 pub struct Written {
     pub at: usize,
     pub state: u64,

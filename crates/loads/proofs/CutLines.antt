@@ -22,7 +22,7 @@ use Rattle.line_machines.proofs.Prefixes.{Halts, HaltsAfter, enough}
 use Rattle.chain.specs.Params.{param_word, param_setting, param_refusal}
 use Rattle.chain.specs.Reports.{refused_line}
 use Rattle.loads.specs.Files.{chain_file}
-use Rattle.loads.specs.Loads.{Stage, param, load, end, stopped, State, step, next, refuse, load_word, most_loaded, on_setting, on_param, on_load, take_due, is_stopped, bad_line, end_due, load_machine, load_program}
+use Rattle.loads.specs.Loads.{Stage, param, load, end, stopped, State, next, refuse, load_word, most_loaded, on_setting, on_param, on_load, take_due, is_stopped, bad_line, end_due, load_machine, load_program}
 use Rattle.loads.proofs.Stopping.{load-stops}
 
 -- what is printed where so many lines were taken, this is due, and these bytes are still to come

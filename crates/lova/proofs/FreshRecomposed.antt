@@ -12,8 +12,8 @@ use Rattle.matrices.proofs.Tables.{entry-table, table_cong}
 use Rattle.settings.specs.Settings.{Parameters, k_of, NOf}
 use Rattle.digits.specs.Digits.{digit_of}
 use Rattle.lova.specs.declared.Profile.TheVariants.{General, Fresh}
-use Rattle.lova.specs.Stored.{Witnesses, columns_of, matrix_S~, sent_S~}
-use Rattle.lova.specs.Repeats.{place_of, repeated_S, repeated_S~, repeated_witnesses}
+use Rattle.lova.specs.Stored.{Witnesses, matrix_S~, sent_S~}
+use Rattle.lova.specs.Repeats.{place_of, repeated_S~, repeated_witnesses}
 use Rattle.lova.specs.Calls.{ShortRecomposed, FollowsRule}
 use Rattle.lova.specs.Fold.{digit_witness, gadget}
 use Rattle.lova.specs.Recompose.{recomposed, witnesses_of}

@@ -3,18 +3,17 @@ use mathlib.Core.Path.{◌≡◌, refl, sym, ◌∙◌, ap, subst}
 use mathlib.Core.Logic.{◌↔◌}
 use mathlib.Core.List.{List}
 use Prim.Native.Nat.{ℕ}
-use lib.IntN.{ℤ, pos, nat_abs}
+use lib.IntN.{ℤ, pos}
 use Rattle.matrices.proofs.Tables.{length-table, entry-table}
-use Rattle.settings.specs.Rules.{first_of}
 use Rattle.settings.specs.Settings.{Parameters, h_of}
 use Rattle.settings.proofs.Accepted.{accepted}
-use Rattle.lova.specs.Answers.{after_setting, Meaning, done, Outcome, ends}
+use Rattle.lova.specs.Answers.{Meaning, done, Outcome, ends}
 use Rattle.lova.specs.declared.Profile.{Profile}
 use Rattle.lova.specs.Stored.{Prepared, Witnesses, matrix_A, matrix_S, right_of, columns_of, right_S, sent_S~}
 use Rattle.lova.specs.Calls.{Fits, FitsPrepared, Bounded, RecomposeLengths, ProperMessage, ProperRecompose}
 use Rattle.lova.specs.Fold.{digit_witness}
-use Rattle.lova.specs.Message.{message_rules, prepared_as, prepared_in, message_in}
-use Rattle.lova.specs.Recompose.{witnesses_of, recompose_rules, recompose_in}
+use Rattle.lova.specs.Message.{prepared_as, prepared_in, message_in}
+use Rattle.lova.specs.Recompose.{witnesses_of, recompose_in}
 use Rattle.lova.proofs.Gadget.{digit_size}
 use Rattle.lova.proofs.Refusals.{Ended, done-ended, ends_so, none-refused, message-proper, recompose-proper}
 use Rattle.lova.proofs.Recomposing.{W, stored, given_back, short-again, rule_followed, short-left, short-right, made_again}

@@ -1,5 +1,5 @@
 -- Recomposition: S~ back to S1 and S2.
-use Rattle.std.specs.Prelude.{Bool, not, ◌&&◌, List, [], ◌∷◌, ℕ, ◌+◌, leb, ℤ}
+use Rattle.std.specs.Prelude.{Bool, not, ◌&&◌, List, [], ◌∷◌, ◌+◌, leb, ℤ}
 use Rattle.integers.specs.Tests.{all}
 use Rattle.matrices.specs.Matrices.{Matrix, product, squared_length}
 use Rattle.settings.specs.Rules.{Rule, ◌gives◌, first_of}

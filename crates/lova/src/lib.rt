@@ -1,23 +1,25 @@
 // The answers of the operations of a fold, and their profiles.
+#![tactic(auto)]
+
 ghost use Rattle.std.specs.Prelude.{◌≡◌};
 ghost use Rattle.lova.specs.Stored.{right_for, copies_for};
 
 // Of message, folded witness and recomposition.
-#[derive(Drop)]
+#[derive(Clone, Copy)]
 pub enum Answer {
     Done,
     Refused(u8),
 }
 
 // Of commit and join: done with the number of leaves under the instance made.
-#[derive(Drop)]
+#[derive(Clone, Copy)]
 pub enum Made {
     Done(u32),
     Refused(u8),
 }
 
 // Of the verdict: yes with the number of leaves under the folded instance.
-#[derive(Drop)]
+#[derive(Clone, Copy)]
 pub enum Verdict {
     Yes(u32),
     Long,
@@ -27,7 +29,7 @@ pub enum Verdict {
 }
 
 // Of the relation test.
-#[derive(Drop)]
+#[derive(Clone, Copy)]
 pub enum Membership {
     Member,
     Long,
@@ -37,7 +39,7 @@ pub enum Membership {
 }
 
 // The profile of a call: the second witness has t columns, or it is one vector that stands for t equal columns.
-#[derive(Drop)]
+#[derive(Clone, Copy)]
 pub enum Profile {
     General,
     Fresh,

@@ -1,4 +1,6 @@
 // One step of a sum of products, exactly and modulo 2^64, and the length of a column of a matrix stored by rows.
+#![tactic(auto)]
+
 ghost use Rattle.std.specs.Prelude.{◌≡◌, ◌+◌, ◌*◌, ◌^◌, ◌<◌, length, pos, ◌+ℤ◌, ◌*ℤ◌, nat_le, unsigned_abs};
 ghost use Rattle.integers.specs.Residues.{word};
 ghost use Rattle.matrices.specs.Lengths.{less_square};
@@ -28,7 +30,7 @@ pub fn add_signed_product(sum: u64, x: u64, y: i64) -> u64
 }
 
 // What is left of a bound, and whether what was taken last was within it.
-#[derive(Drop)]
+#[derive(Clone, Copy)]
 pub struct Left {
     pub within: bool,
     pub rest: u64,

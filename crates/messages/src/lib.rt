@@ -1,4 +1,6 @@
 // Message: V, T~, D~ and the digit witness S~ of two witnesses.
+#![tactic(auto)]
+
 ghost use Rattle.std.specs.Prelude.{◌≡◌, ◌&&◌};
 ghost use Rattle.settings.specs.Rules.{first_of};
 ghost use Rattle.settings.specs.Settings.{parameters_of};
@@ -29,7 +31,7 @@ fn message_lengths(
         ≡ (fits (matrix_A (parameters_of setting)) a.now
         && fits (matrix_S (parameters_of setting)) s1.now
         && fits (right_S (parameters_of setting) profile) s2.now
-        && fits_prepared (parameters_of setting) profile (prepared_before v tt dd ss)) }
+        && fits_prepared (parameters_of setting) profile (prepared_before v.now tt.now dd.now ss.now)) }
 {
     let right = profile.right(setting.t);
     let wide = (setting.t + right) * setting.k;
@@ -62,7 +64,7 @@ fn message_refusal(
     requires { Rebuilt setting }
     ensures { result
         ≡ first_of (message_rules (parameters_of setting) profile a.now s1.now s2.now
-        (prepared_before v tt dd ss)) }
+        (prepared_before v.now tt.now dd.now ss.now)) }
 {
     if !message_lengths(setting, profile, a, s1, s2, v, tt, dd, ss) {
         return 7;
@@ -89,9 +91,9 @@ pub fn message(
     dd: &mut [i64],
     ss: &mut [i64],
 ) -> Answer
-    ensures { ends (answer_of result) (prepared_after v tt dd ss)
+    ensures { ends (answer_of result) (prepared_after v.new tt.new dd.new ss.new)
         ≡ message_in (parameters_of setting) profile a.now s1.now s2.now
-        (prepared_before v tt dd ss) }
+        (prepared_before v.old tt.old dd.old ss.old) }
 {
     let checked = setting.rebuilt();
     let number = checked.refusal;

@@ -1,4 +1,6 @@
 // Decimal numerals, written to a lent buffer.
+#![tactic(auto)]
+
 ghost use Rattle.std.specs.Prelude.{◌≡◌, ◌+◌, ◌≤◌, length};
 ghost use Rattle.numerals.specs.Bytes.{written};
 ghost use Rattle.numerals.specs.Numerals.{decimal, decimal_Z};

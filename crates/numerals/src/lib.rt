@@ -1,16 +1,18 @@
 // Decimal numerals, read from bytes.
+#![tactic(auto)]
+
 ghost use Rattle.std.specs.Prelude.{◌≡◌};
 ghost use Rattle.numerals.specs.Numerals.{read_unsigned};
 
 // An unsigned number, or that there is none.
-#[derive(Drop)]
+#[derive(Clone, Copy)]
 pub enum ParsedU64 {
     Number(u64),
     Bad,
 }
 
 // A signed number, or that there is none.
-#[derive(Drop)]
+#[derive(Clone, Copy)]
 pub enum ParsedI64 {
     Number(i64),
     Bad,

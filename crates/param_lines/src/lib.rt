@@ -1,4 +1,6 @@
 // The record `param`, with which the input of a program begins.
+#![tactic(auto)]
+
 ghost use Rattle.std.specs.Prelude.{◌≡◌};
 ghost use Rattle.settings.specs.Settings.{refused_of};
 ghost use Rattle.text.specs.Fields.{record_of, read_u64};

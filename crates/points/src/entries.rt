@@ -7,39 +7,39 @@ use digits::Base;
 use shown::lines;
 
 // Shows the digits of x to the base b, as many as `out` holds.
-fn show_digits(x: i64, b: u64, out: &mut [i64])
+fn show_digits(rt: &impl Print, x: i64, b: u64, out: &mut [i64])
     requires { (2 ≤ b) × (b < 2 ^ 16) × InReach b (nat_abs x) }
 {
     digits::write_digits(x, Base::new(b), out);
-    lines::digits(x, b, out);
+    lines::digits(rt, x, b, out);
 }
 
-pub(crate) fn five_digits(x: i64, b: u64)
+pub(crate) fn five_digits(rt: &impl Print, x: i64, b: u64)
     requires { (2 ≤ b) × (b < 2 ^ 16) × InReach b (nat_abs x) }
 {
     let mut out = [0i64; 5];
-    show_digits(x, b, &mut out);
+    show_digits(rt, x, b, &mut out);
 }
 
-fn three_digits(x: i64, b: u64)
+fn three_digits(rt: &impl Print, x: i64, b: u64)
     requires { (2 ≤ b) × (b < 2 ^ 16) × InReach b (nat_abs x) }
 {
     let mut out = [0i64; 3];
-    show_digits(x, b, &mut out);
+    show_digits(rt, x, b, &mut out);
 }
 
-pub(crate) fn digit_points() {
-    five_digits(7, 2);
-    five_digits(-5, 2);
-    three_digits(5, 3);
-    three_digits(6, 4);
-    three_digits(7, 4);
+pub(crate) fn digit_points(rt: &impl Print) {
+    five_digits(rt, 7, 2);
+    five_digits(rt, -5, 2);
+    three_digits(rt, 5, 3);
+    three_digits(rt, 6, 4);
+    three_digits(rt, 7, 4);
 }
 
 // The last T is 0: the product of A and S is 2^64.
-pub(crate) fn witness_points() {
-    example::committed([3], [10]);
-    example::committed([3], [11]);
-    example::committed([3], [-9223372036854775808]);
-    example::committed([9223372036854775808], [2]);
+pub(crate) fn witness_points(rt: &impl Print) {
+    example::committed(rt, [3], [10]);
+    example::committed(rt, [3], [11]);
+    example::committed(rt, [3], [-9223372036854775808]);
+    example::committed(rt, [9223372036854775808], [2]);
 }

@@ -12,7 +12,7 @@ const S2: [i64; 1] = [-5];
 const C: [u8; 10] = [1, 1, 1, 0, 0, 2, 0, 2, 0, 0];
 
 // An instance of Setting 1.
-#[derive(Drop)]
+#[derive(Clone, Copy)]
 pub(crate) struct Instance {
     t: [u64; 1],
     d: [i64; 1],
@@ -25,25 +25,25 @@ pub(crate) fn one() -> Setting {
 }
 
 // Commits to one entry, by one entry of A.
-pub(crate) fn committed(a: [u64; 1], s: [i64; 1]) -> Instance {
+pub(crate) fn committed(rt: &impl Print, a: [u64; 1], s: [i64; 1]) -> Instance {
     let mut t = [111u64; 1];
     let mut d = [-222i64; 1];
-    lines::commit(one(), Profile::General, &a, &s, &mut t, &mut d);
+    lines::commit(rt, one(), Profile::General, &a, &s, &mut t, &mut d);
     Instance { t: t, d: d }
 }
 
-pub(crate) fn fold() {
-    let first = committed(A, S1);
-    let second = committed(A, S2);
+pub(crate) fn fold(rt: &impl Print) {
+    let first = committed(rt, A, S1);
+    let second = committed(rt, A, S2);
     let t1 = first.t;
     let d1 = first.d;
     let t2 = second.t;
     let d2 = second.d;
-    message(one(), &t1, &d1, &t2, &d2);
+    message(rt, one(), &t1, &d1, &t2, &d2);
 }
 
 // The message, and the verdicts on it. What they read goes down as slices: a record would be taken apart at each call.
-fn message(setting: Setting, t1: &[u64], d1: &[i64], t2: &[u64], d2: &[i64]) {
+fn message(rt: &impl Print, setting: Setting, t1: &[u64], d1: &[i64], t2: &[u64], d2: &[i64]) {
     let mut v = [-222i64; 1];
     let mut tt = [111u64; 10];
     let mut dd = [-222i64; 55];
@@ -59,10 +59,11 @@ fn message(setting: Setting, t1: &[u64], d1: &[i64], t2: &[u64], d2: &[i64]) {
         &mut dd,
         &mut ss,
     );
-    verdicts(setting, given, t1, d1, t2, d2, &v, &tt, dd, &ss);
+    verdicts(rt, setting, given, t1, d1, t2, d2, &v, &tt, dd, &ss);
 }
 
 fn verdicts(
+    rt: &impl Print,
     setting: Setting,
     given: Answer,
     t1: &[u64],
@@ -74,15 +75,16 @@ fn verdicts(
     dd: [i64; 55],
     ss: &[i64],
 ) {
-    lines::message(given, v, tt, ss);
-    folded(setting, t1, d1, t2, d2, v, tt, &dd, ss);
-    lines::spoiled(setting, t1, d1, t2, d2, v, tt, dd, 0, 0);
-    lines::spoiled(setting, t1, d1, t2, d2, v, tt, dd, 2, 0);
-    lines::spoiled(setting, t1, d1, t2, d2, v, tt, dd, 2, 3);
+    lines::message(rt, given, v, tt, ss);
+    folded(rt, setting, t1, d1, t2, d2, v, tt, &dd, ss);
+    lines::spoiled(rt, setting, t1, d1, t2, d2, v, tt, dd, 0, 0);
+    lines::spoiled(rt, setting, t1, d1, t2, d2, v, tt, dd, 2, 0);
+    lines::spoiled(rt, setting, t1, d1, t2, d2, v, tt, dd, 2, 3);
 }
 
 // The fold by C, and its end.
 fn folded(
+    rt: &impl Print,
     setting: Setting,
     t1: &[u64],
     d1: &[i64],
@@ -97,8 +99,9 @@ fn folded(
     let mut t = [111u64; 1];
     let mut d = [-222i64; 1];
     let mut s = [-333i64; 1];
-    print::text(b"fold");
+    print::text(rt, b"fold");
     lines::verdict(
+        rt,
         setting,
         Profile::General,
         t1,
@@ -112,6 +115,6 @@ fn folded(
         &mut t,
         &mut d,
     );
-    lines::folded_witness(setting, Profile::General, ss, c, &mut s);
-    lines::relation_test(setting, &A, &t, &d, &s);
+    lines::folded_witness(rt, setting, Profile::General, ss, c, &mut s);
+    lines::relation_test(rt, setting, &A, &t, &d, &s);
 }

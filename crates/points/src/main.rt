@@ -1,5 +1,7 @@
 // Runs document 01's points on the library, and writes what it answers; the check compares that with `stdout`. No
 // contract can say what is written, so the functions here promise only that they are safe and end.
+#![tactic(auto)]
+
 mod entries;
 mod example;
 mod limits;
@@ -8,17 +10,17 @@ mod wrong;
 
 use shown::print;
 
-fn main() {
-    print::text(b"Points to hold against\n");
-    limits::points();
-    entries::digit_points();
-    entries::witness_points();
+fn main(rt: HostRuntime) {
+    print::text(&rt, b"Points to hold against\n");
+    limits::points(&rt);
+    entries::digit_points(&rt);
+    entries::witness_points(&rt);
     // The points on the fold stand at its end.
-    print::text(b"The fold of 7 and -5\n");
-    example::fold();
-    print::text(b"The house list\n");
-    limits::house_list();
-    print::text(b"Plausible and wrong\n");
-    wrong::points();
-    pairs::fold();
+    print::text(&rt, b"The fold of 7 and -5\n");
+    example::fold(&rt);
+    print::text(&rt, b"The house list\n");
+    limits::house_list(&rt);
+    print::text(&rt, b"Plausible and wrong\n");
+    wrong::points(&rt);
+    pairs::fold(&rt);
 }

@@ -15,21 +15,21 @@ const C: [u8; 32] = [
     1, 2, 2, 0, 2, 2, 2, 2, 2, 2, 0, 2, 2, 2, 2, 2, 2, 1, 2, 2, 2, 2, 2, 2, 2, 2, 2, 2, 1, 2, 2, 2,
 ];
 
-#[derive(Drop)]
+#[derive(Clone, Copy)]
 struct Instance {
     t: [u64; 2],
     d: [i64; 4],
 }
 
-pub(crate) fn fold() {
-    answers::asked(1, 2, 2, 3, 512);
-    let first = committed(S1);
-    let second = committed(S2);
+pub(crate) fn fold(rt: &impl Print) {
+    answers::asked(rt, 1, 2, 2, 3, 512);
+    let first = committed(rt, S1);
+    let second = committed(rt, S2);
     let t1 = first.t;
     let d1 = first.d;
     let t2 = second.t;
     let d2 = second.d;
-    message(pair(), &t1, &d1, &t2, &d2);
+    message(rt, pair(), &t1, &d1, &t2, &d2);
 }
 
 // The setting of this fold.
@@ -38,15 +38,15 @@ fn pair() -> Setting {
     given.setting
 }
 
-fn committed(s: [i64; 4]) -> Instance {
+fn committed(rt: &impl Print, s: [i64; 4]) -> Instance {
     let mut t = [111u64; 2];
     let mut d = [-222i64; 4];
-    lines::commit(pair(), Profile::General, &A, &s, &mut t, &mut d);
+    lines::commit(rt, pair(), Profile::General, &A, &s, &mut t, &mut d);
     Instance { t: t, d: d }
 }
 
 // The message, and what the verifier makes of it, to which all is lent as in the printed fold.
-fn message(setting: Setting, t1: &[u64], d1: &[i64], t2: &[u64], d2: &[i64]) {
+fn message(rt: &impl Print, setting: Setting, t1: &[u64], d1: &[i64], t2: &[u64], d2: &[i64]) {
     let mut v = [-222i64; 4];
     let mut tt = [111u64; 16];
     let mut dd = [-222i64; 136];
@@ -62,10 +62,11 @@ fn message(setting: Setting, t1: &[u64], d1: &[i64], t2: &[u64], d2: &[i64]) {
         &mut dd,
         &mut ss,
     );
-    verdicts(setting, given, t1, d1, t2, d2, &v, &tt, dd, &ss);
+    verdicts(rt, setting, given, t1, d1, t2, d2, &v, &tt, dd, &ss);
 }
 
 fn verdicts(
+    rt: &impl Print,
     setting: Setting,
     given: Answer,
     t1: &[u64],
@@ -78,15 +79,23 @@ fn verdicts(
     ss: &[i64],
 ) {
     let honest: &[i64] = &dd;
-    lines::message(given, v, tt, ss);
-    joined(setting, t1, d1, t2, d2, v);
-    folded(setting, t1, d1, t2, d2, v, tt, honest, ss);
-    turned(setting, t1, d1, t2, d2, tt, honest);
-    too_large(setting, t1, d1, t2, d2, v, tt, dd);
+    lines::message(rt, given, v, tt, ss);
+    joined(rt, setting, t1, d1, t2, d2, v);
+    folded(rt, setting, t1, d1, t2, d2, v, tt, honest, ss);
+    turned(rt, setting, t1, d1, t2, d2, tt, honest);
+    too_large(rt, setting, t1, d1, t2, d2, v, tt, dd);
 }
 
 // V stands in the upper right of D, and its transpose in the lower left.
-fn joined(setting: Setting, t1: &[u64], d1: &[i64], t2: &[u64], d2: &[i64], v: &[i64]) {
+fn joined(
+    rt: &impl Print,
+    setting: Setting,
+    t1: &[u64],
+    d1: &[i64],
+    t2: &[u64],
+    d2: &[i64],
+    v: &[i64],
+) {
     let mut t = [111u64; 4];
     let mut d = [-222i64; 16];
     let given = joins::join(
@@ -102,11 +111,12 @@ fn joined(setting: Setting, t1: &[u64], d1: &[i64], t2: &[u64], d2: &[i64], v: &
         &mut t,
         &mut d,
     );
-    lines::join(given, &t, &d);
+    lines::join(rt, given, &t, &d);
 }
 
 // The fold by C, and its end.
 fn folded(
+    rt: &impl Print,
     setting: Setting,
     t1: &[u64],
     d1: &[i64],
@@ -121,8 +131,9 @@ fn folded(
     let mut t = [111u64; 2];
     let mut d = [-222i64; 4];
     let mut s = [-333i64; 4];
-    print::text(b"fold");
+    print::text(rt, b"fold");
     lines::verdict(
+        rt,
         setting,
         Profile::General,
         t1,
@@ -136,12 +147,13 @@ fn folded(
         &mut t,
         &mut d,
     );
-    lines::folded_witness(setting, Profile::General, ss, c, &mut s);
-    lines::relation_test(setting, &A, &t, &d, &s);
+    lines::folded_witness(rt, setting, Profile::General, ss, c, &mut s);
+    lines::relation_test(rt, setting, &A, &t, &d, &s);
 }
 
 // A message with V transposed. T' and D' stay as they are.
 fn turned(
+    rt: &impl Print,
     setting: Setting,
     t1: &[u64],
     d1: &[i64],
@@ -154,8 +166,9 @@ fn turned(
     let c = [0; 32];
     let mut t = [111u64; 2];
     let mut d = [-222i64; 4];
-    print::text(b"V transposed");
+    print::text(rt, b"V transposed");
     lines::verdict(
+        rt,
         setting,
         Profile::General,
         t1,
@@ -173,6 +186,7 @@ fn turned(
 
 // A message with an entry of D~ above H. The honest entry is H, which is above h^2. T' and D' stay as they are.
 fn too_large(
+    rt: &impl Print,
     setting: Setting,
     t1: &[u64],
     d1: &[i64],
@@ -185,9 +199,10 @@ fn too_large(
     let c = [0; 32];
     let mut t = [111u64; 2];
     let mut d = [-222i64; 4];
-    print::signed(b"3 for the entry of D~ that is ", dd[0]);
+    print::signed(rt, b"3 for the entry of D~ that is ", dd[0]);
     dd[0] = 3;
     lines::verdict(
+        rt,
         setting,
         Profile::General,
         t1,

@@ -3,17 +3,18 @@
 use super::{entries, example};
 use shown::lines;
 
-pub(crate) fn points() {
+pub(crate) fn points(rt: &impl Print) {
     // By the remainder of a negative entry its digit would be 1 and the rest -1 again, without end.
-    entries::five_digits(-1, 2);
+    entries::five_digits(rt, -1, 2);
     // A witness whose square is 0 modulo 2^64: by sums that wrap it would commit.
-    example::committed([3], [4294967296]);
-    lowest_word();
+    example::committed(rt, [3], [4294967296]);
+    lowest_word(rt);
 }
 
 // By a size in a signed word, whose square is 0 too, this would be a member.
-fn lowest_word() {
+fn lowest_word(rt: &impl Print) {
     lines::relation_test(
+        rt,
         example::one(),
         &[3],
         &[9223372036854775808],

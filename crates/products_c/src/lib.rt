@@ -1,6 +1,8 @@
 // The digits and the four costly products as C functions, so that the speed table can time each of them alone, and the
 // wrapping product and T', for the gate's look at machine code. A caller from C owes what the `requires` say;
 // `include/lova.h` has the functions to use.
+#![tactic(auto)]
+
 ghost use Rattle.std.specs.Prelude.{◌≡◌, ◌*◌, ◌%◌, ◌^◌, ◌≤◌, ◌<◌, length};
 ghost use Rattle.matrices.specs.Matrices.{product, gram, both_sides};
 ghost use Rattle.matrices.specs.Tables.{table, residues, signed, unsigned, challenge};

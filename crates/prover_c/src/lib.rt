@@ -1,6 +1,8 @@
 // The prover's operations for C. A setting is its five numbers n, m, t, b and bound; each function returns a code.
 // `include/lova.h` declares them, beside those of `verifier_c` and `settings_c`; those with a fresh second witness
 // stand in `prover_fresh_c`.
+#![tactic(auto)]
+
 ghost use Rattle.std.specs.Prelude.{◌≡◌};
 ghost use Rattle.settings.specs.HouseList.{parameters};
 ghost use Rattle.lova.specs.Stored.{counted};
@@ -26,9 +28,9 @@ pub extern "C" fn lova_commit(
     d_out: &mut [i64],
     leaves_out: &mut u32,
 ) -> u8
-    ensures { returned result (counted (instance_after t_out d_out) leaves_out.new)
+    ensures { returned result (counted (instance_after t_out.new d_out.new) leaves_out.new)
         ≡ coded (placed leaves_out.old (commit (parameters n m t b bound) a.now
-        s.now (instance_before t_out d_out))) }
+        s.now (instance_before t_out.old d_out.old))) }
 {
     let setting = codes::setting_of(n, m, t, b, bound);
     let made = commitments::commit(setting, Profile::General, a, s, t_out, d_out);
@@ -52,9 +54,9 @@ pub extern "C" fn lova_message(
     dd: &mut [i64],
     ss: &mut [i64],
 ) -> u8
-    ensures { returned result (prepared_after v tt dd ss)
+    ensures { returned result (prepared_after v.new tt.new dd.new ss.new)
         ≡ coded (message (parameters n m t b bound) a.now s1.now s2.now
-        (prepared_before v tt dd ss)) }
+        (prepared_before v.old tt.old dd.old ss.old)) }
 {
     let setting = codes::setting_of(n, m, t, b, bound);
     let answer = messages::message(setting, Profile::General, a, s1, s2, v, tt, dd, ss);

@@ -1,6 +1,8 @@
 // The prover's operations for C with a fresh second witness: one vector that stands for t equal columns. They are those
 // of `prover_c` but for the profile, and stand in a crate of their own so that the compiler makes each of them for its
 // profile.
+#![tactic(auto)]
+
 ghost use Rattle.std.specs.Prelude.{◌≡◌};
 ghost use Rattle.settings.specs.HouseList.{parameters};
 ghost use Rattle.lova.specs.declared.Profile.TheVariants.{Fresh};
@@ -27,9 +29,9 @@ pub extern "C" fn lova_commit_fresh(
     d_out: &mut [i64],
     leaves_out: &mut u32,
 ) -> u8
-    ensures { returned result (counted (instance_after t_out d_out) leaves_out.new)
+    ensures { returned result (counted (instance_after t_out.new d_out.new) leaves_out.new)
         ≡ coded (placed leaves_out.old (commit_in (parameters n m t b bound) Fresh a.now
-        s.now (instance_before t_out d_out))) }
+        s.now (instance_before t_out.old d_out.old))) }
 {
     let setting = codes::setting_of(n, m, t, b, bound);
     let made = commitments::commit(setting, Profile::Fresh, a, s, t_out, d_out);
@@ -53,9 +55,9 @@ pub extern "C" fn lova_message_fresh(
     dd: &mut [i64],
     ss: &mut [i64],
 ) -> u8
-    ensures { returned result (prepared_after v tt dd ss)
+    ensures { returned result (prepared_after v.new tt.new dd.new ss.new)
         ≡ coded (message_in (parameters n m t b bound) Fresh a.now s1.now s2.now
-        (prepared_before v tt dd ss)) }
+        (prepared_before v.old tt.old dd.old ss.old)) }
 {
     let setting = codes::setting_of(n, m, t, b, bound);
     let answer = messages::message(setting, Profile::Fresh, a, s1, s2, v, tt, dd, ss);

@@ -1,4 +1,6 @@
 // The ternary vectors at which a quadratic form is 0, counted.
+#![tactic(auto)]
+
 ghost use Rattle.std.specs.Prelude.{◌≡◌, ◌+◌, ◌≤◌, pos, nat_abs, length};
 ghost use Rattle.matrices.specs.Triangles.{mirrored};
 ghost use Rattle.lova.specs.Tests.{eq_Z};
@@ -14,7 +16,7 @@ pub const MAX_ROWS: usize = 12;
 pub const MAX_ENTRY: u64 = 4503599627370496;
 
 // The count, or a refusal.
-#[derive(Drop)]
+#[derive(Clone, Copy)]
 pub enum Counted {
     Count(u64),
     Refused(u8),

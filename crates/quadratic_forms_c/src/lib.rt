@@ -1,5 +1,7 @@
 // The count of zeros of a quadratic form for C: one function, which writes the count and returns a code.
 // `include/lova.h` declares it.
+#![tactic(auto)]
+
 ghost use Rattle.std.specs.Prelude.{◌≡◌};
 ghost use Rattle.codes.specs.Codes.{returned};
 ghost use Rattle.quadratic_forms_c.specs.Given.{count_given};

@@ -1,8 +1,8 @@
 -- What the passes over the rows of S~ find and write, in the words of the definitions.
-use mathlib.Core.Path.{◌≡◌, refl, sym, ◌∙◌, ap, ap₂}
+use mathlib.Core.Path.{◌≡◌, sym, ◌∙◌, ap, ap₂}
 use mathlib.Core.Bool.{Bool, not}
 use mathlib.Core.List.{List, [], ◌∷◌}
-use Prim.Native.Nat.{ℕ, ◌+◌, ◌*◌, ◌-◌, ◌/◌, ◌%◌, ◌^◌, ◌<◌, ◌≤◌}
+use Prim.Native.Nat.{ℕ, ◌+◌, ◌*◌, ◌/◌, ◌%◌, ◌^◌, ◌<◌, ◌≤◌}
 use native.Mathlib.Omega.{arith, by_contra}
 use native.Mathlib.Nat.{mul-le-mul, div-lt_iff_lt-mul, div-add-mod', mod-lt, add_assoc, zero-add}
 use lib.Arith.{digits_lt}
@@ -13,7 +13,7 @@ use Rattle.integers.specs.Sums.{sum}
 use Rattle.integers.proofs.Sums.{sum_cong, sum_ℕ_cong}
 use Rattle.integers.proofs.Tests.{same_test, all_true, all_elim, all_cong}
 use Rattle.integers.specs.Tests.{all}
-use Rattle.matrices.specs.Matrices.{Matrix, product, squared_length}
+use Rattle.matrices.specs.Matrices.{product, squared_length}
 use Rattle.matrices.specs.Tables.{table, signed}
 use Rattle.matrices.proofs.Bounds.{entry-squared}
 use Rattle.matrices.proofs.Tables.{row_within, table_cong}
@@ -23,7 +23,6 @@ use Rattle.settings.specs.Settings.{Parameters, parameters_of, k_of}
 use Rattle.digits.specs.Digits.{digit_of}
 use Rattle.lova.specs.declared.Profile.{Profile}
 use Rattle.lova.specs.Stored.{Witnesses, right_for, columns_of, sent_S~}
-use Rattle.lova.specs.Tests.{every}
 use Rattle.lova.specs.Calls.{Fits, Rebuilt, ShortRecomposed, FollowsRule}
 use Rattle.lova.specs.Fold.{gadget, digit_witness}
 use Rattle.lova.specs.Recompose.{recomposed, witnesses_of, short_recomposed, follows_rule}
@@ -31,7 +30,7 @@ use Rattle.lova.proofs.Gadget.{gadget-right, digit_place}
 use Rattle.lova.proofs.Rebuilding.{rebuilt-accepted, k-is}
 use Rattle.lova.proofs.Tests.{every_iff, eq_Z_iff, rule_iff}
 use Rattle.lova.proofs.Widths.{wide_of}
-use Rattle.digit_entries.specs.Entries.{entry_of, limit, clamped, follow_rule}
+use Rattle.digit_entries.specs.Entries.{limit, clamped, follow_rule}
 use Rattle.digit_entries.proofs.Clamped.{clamped-within}
 use Rattle.digit_rows.specs.Rows.{digits_at, read_at, place, entry_at, short_columns, ruled_entries, rows_rules}
 use Rattle.digit_rows.proofs.Blocks.{digits_long, digit_read, entry_read}

@@ -1,4 +1,6 @@
 // Recomposition: the witnesses S1 and S2, or S1 and a fresh v, of a digit witness.
+#![tactic(auto)]
+
 ghost use Rattle.std.specs.Prelude.{◌≡◌, ◌&&◌};
 ghost use Rattle.settings.specs.Rules.{first_of};
 ghost use Rattle.settings.specs.Settings.{parameters_of};
@@ -33,7 +35,7 @@ fn recompose_lengths(setting: Setting, profile: Profile, ss: &[i64], s1: &[i64],
 fn recompose_refusal(setting: Setting, profile: Profile, ss: &[i64], s1: &[i64], s2: &[i64]) -> u8
     requires { Rebuilt setting }
     ensures { result
-        ≡ first_of (recompose_rules (parameters_of setting) profile ss.now (witnesses_before s1 s2)) }
+        ≡ first_of (recompose_rules (parameters_of setting) profile ss.now (witnesses_before s1.now s2.now)) }
 {
     if !recompose_lengths(setting, profile, ss, s1, s2) {
         return 7;
@@ -53,8 +55,8 @@ pub fn recompose(
     s1: &mut [i64],
     s2: &mut [i64],
 ) -> Answer
-    ensures { ends (answer_of result) (witnesses_after s1 s2)
-        ≡ recompose_in (parameters_of setting) profile ss.now (witnesses_before s1 s2) }
+    ensures { ends (answer_of result) (witnesses_after s1.new s2.new)
+        ≡ recompose_in (parameters_of setting) profile ss.now (witnesses_before s1.old s2.old) }
 {
     let checked = setting.rebuilt();
     let number = checked.refusal;

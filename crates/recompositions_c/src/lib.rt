@@ -1,4 +1,6 @@
 // Recomposition for C, in both profiles.
+#![tactic(auto)]
+
 ghost use Rattle.std.specs.Prelude.{◌≡◌};
 ghost use Rattle.settings.specs.HouseList.{parameters};
 ghost use Rattle.lova.specs.declared.Profile.TheVariants.{General, Fresh};
@@ -20,8 +22,8 @@ pub extern "C" fn lova_recompose(
     s1: &mut [i64],
     s2: &mut [i64],
 ) -> u8
-    ensures { returned result (witnesses_after s1 s2)
-        ≡ coded (recompose_in (parameters n m t b bound) General ss.now (witnesses_before s1 s2)) }
+    ensures { returned result (witnesses_after s1.new s2.new)
+        ≡ coded (recompose_in (parameters n m t b bound) General ss.now (witnesses_before s1.old s2.old)) }
 {
     let setting = codes::setting_of(n, m, t, b, bound);
     let answer = recompositions::recompose(setting, Profile::General, ss, s1, s2);
@@ -40,8 +42,8 @@ pub extern "C" fn lova_recompose_fresh(
     s1: &mut [i64],
     v: &mut [i64],
 ) -> u8
-    ensures { returned result (witnesses_after s1 v)
-        ≡ coded (recompose_in (parameters n m t b bound) Fresh ss.now (witnesses_before s1 v)) }
+    ensures { returned result (witnesses_after s1.new v.new)
+        ≡ coded (recompose_in (parameters n m t b bound) Fresh ss.now (witnesses_before s1.old v.old)) }
 {
     let setting = codes::setting_of(n, m, t, b, bound);
     let answer = recompositions::recompose(setting, Profile::Fresh, ss, s1, v);

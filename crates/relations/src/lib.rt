@@ -1,4 +1,6 @@
 // The relation test: whether T, D and S are in the paper's relation (1) with A.
+#![tactic(auto)]
+
 ghost use Rattle.std.specs.Prelude.{◌≡◌, ◌&&◌, ◌*◌, ◌<◌, ◌≤◌, length};
 ghost use Rattle.matrices.specs.Matrices.{product, gram};
 ghost use Rattle.matrices.specs.Tables.{unsigned, signed};
@@ -19,7 +21,7 @@ fn relation_lengths(setting: Setting, a: &[u64], t: &[u64], d: &[i64], s: &[i64]
     requires { Rebuilt setting }
     ensures { result
         ≡ (fits (matrix_A (parameters_of setting)) a.now
-        && fits_instance (parameters_of setting) (instance_before t d)
+        && fits_instance (parameters_of setting) (instance_before t.now d.now)
         && fits (matrix_S (parameters_of setting)) s.now) }
 {
     a.len() == setting.n * setting.m
@@ -31,7 +33,7 @@ fn relation_lengths(setting: Setting, a: &[u64], t: &[u64], d: &[i64], s: &[i64]
 fn relation_refusal(setting: Setting, a: &[u64], t: &[u64], d: &[i64], s: &[i64]) -> u8
     requires { Rebuilt setting }
     ensures { result
-        ≡ first_of (relation_rules (parameters_of setting) a.now (instance_before t d) s.now) }
+        ≡ first_of (relation_rules (parameters_of setting) a.now (instance_before t.now d.now) s.now) }
 {
     if !relation_lengths(setting, a, t, d, s) {
         return 7;
@@ -157,7 +159,7 @@ fn commitment_holds(a: &[u64], t: &[u64], s: &[i64], rows: usize, m: usize, cols
 // Whether t, d and s are in the paper's relation (1) with a.
 pub fn test_relation(setting: Setting, a: &[u64], t: &[u64], d: &[i64], s: &[i64]) -> Membership
     ensures { membership_of result
-        ≡ (relation (parameters_of setting) a.now (instance_before t d) s.now).answer }
+        ≡ (relation (parameters_of setting) a.now (instance_before t.now d.now) s.now).answer }
 {
     let checked = setting.rebuilt();
     let number = checked.refusal;

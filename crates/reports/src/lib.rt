@@ -1,4 +1,6 @@
 // The lines that the chain program prints for a leaf and a fold, each written to the start of a buffer.
+#![tactic(auto)]
+
 ghost use Rattle.std.specs.Prelude.{◌≡◌, [], ◌∷◌, ◌+◌, ◌*◌, ◌≤◌, length, take};
 ghost use Rattle.numerals.specs.Bytes.{written};
 ghost use Rattle.text.specs.Lines.{tabbed};

@@ -30,8 +30,8 @@ const C: [u8; 32] = [
     0, 1, 2, 0, 2, 0, 2, 0, 1, 0, 0, 0, 1, 2, 0, 0, 1, 1, 0, 0, 2, 0, 0, 0, 0, 0, 0, 2, 0, 1, 1, 0,
 ];
 
-pub(crate) fn points() {
-    given(&A, &S1, &REPEATED, &FRESH, &C);
+pub(crate) fn points(rt: &impl Print) {
+    given(rt, &A, &S1, &REPEATED, &FRESH, &C);
 }
 
 fn house() -> Setting {
@@ -39,26 +39,27 @@ fn house() -> Setting {
     given.setting
 }
 
-fn given(a: &[u64], s1: &[i64], repeated: &[i64], vector: &[i64], c: &[u8]) {
+fn given(rt: &impl Print, a: &[u64], s1: &[i64], repeated: &[i64], vector: &[i64], c: &[u8]) {
     let mut t1 = [111u64; 8];
     let mut d1 = [-222i64; 4];
-    lines::commit(house(), Profile::General, a, s1, &mut t1, &mut d1);
-    print::text(b"the vector repeated\n");
-    general(a, s1, repeated, c, &t1, &d1);
-    print::text(b"the fresh vector\n");
-    fresh(a, s1, vector, c, &t1, &d1);
-    print::text(b"general lengths in fresh calls\n");
-    lengths(a, repeated, c, &t1, &d1);
+    lines::commit(rt, house(), Profile::General, a, s1, &mut t1, &mut d1);
+    print::text(rt, b"the vector repeated\n");
+    general(rt, a, s1, repeated, c, &t1, &d1);
+    print::text(rt, b"the fresh vector\n");
+    fresh(rt, a, s1, vector, c, &t1, &d1);
+    print::text(rt, b"general lengths in fresh calls\n");
+    lengths(rt, a, repeated, c, &t1, &d1);
 }
 
-fn general(a: &[u64], s1: &[i64], s2: &[i64], c: &[u8], t1: &[u64], d1: &[i64]) {
+fn general(rt: &impl Print, a: &[u64], s1: &[i64], s2: &[i64], c: &[u8], t1: &[u64], d1: &[i64]) {
     let mut t2 = [111u64; 8];
     let mut d2 = [-222i64; 4];
-    lines::commit(house(), Profile::General, a, s2, &mut t2, &mut d2);
-    general_message(a, s1, s2, c, t1, d1, &t2, &d2);
+    lines::commit(rt, house(), Profile::General, a, s2, &mut t2, &mut d2);
+    general_message(rt, a, s1, s2, c, t1, d1, &t2, &d2);
 }
 
 fn general_message(
+    rt: &impl Print,
     a: &[u64],
     s1: &[i64],
     s2: &[i64],
@@ -83,18 +84,32 @@ fn general_message(
         &mut dd,
         &mut ss,
     );
-    lines::message(given, &v, &tt, &ss);
-    folded(Profile::General, a, c, t1, d1, t2, d2, &v, &tt, &dd, &ss);
+    lines::message(rt, given, &v, &tt, &ss);
+    folded(
+        rt,
+        Profile::General,
+        a,
+        c,
+        t1,
+        d1,
+        t2,
+        d2,
+        &v,
+        &tt,
+        &dd,
+        &ss,
+    );
 }
 
-fn fresh(a: &[u64], s1: &[i64], s2: &[i64], c: &[u8], t1: &[u64], d1: &[i64]) {
+fn fresh(rt: &impl Print, a: &[u64], s1: &[i64], s2: &[i64], c: &[u8], t1: &[u64], d1: &[i64]) {
     let mut t2 = [111u64; 4];
     let mut d2 = [-222i64; 1];
-    lines::commit(house(), Profile::Fresh, a, s2, &mut t2, &mut d2);
-    fresh_message(a, s1, s2, c, t1, d1, &t2, &d2);
+    lines::commit(rt, house(), Profile::Fresh, a, s2, &mut t2, &mut d2);
+    fresh_message(rt, a, s1, s2, c, t1, d1, &t2, &d2);
 }
 
 fn fresh_message(
+    rt: &impl Print,
     a: &[u64],
     s1: &[i64],
     s2: &[i64],
@@ -119,12 +134,13 @@ fn fresh_message(
         &mut dd,
         &mut ss,
     );
-    lines::message(given, &v, &tt, &ss);
-    folded(Profile::Fresh, a, c, t1, d1, t2, d2, &v, &tt, &dd, &ss);
+    lines::message(rt, given, &v, &tt, &ss);
+    folded(rt, Profile::Fresh, a, c, t1, d1, t2, d2, &v, &tt, &dd, &ss);
 }
 
 // Join, the fold by c, and its end.
 fn folded(
+    rt: &impl Print,
     profile: Profile,
     a: &[u64],
     c: &[u8],
@@ -140,9 +156,10 @@ fn folded(
     let mut t = [111u64; 8];
     let mut d = [-222i64; 4];
     let mut s = [-333i64; 32];
-    joined(profile, t1, d1, t2, d2, v);
-    print::text(b"fold");
+    joined(rt, profile, t1, d1, t2, d2, v);
+    print::text(rt, b"fold");
     lines::verdict(
+        rt,
         house(),
         profile,
         t1,
@@ -156,31 +173,42 @@ fn folded(
         &mut t,
         &mut d,
     );
-    lines::folded_witness(house(), profile, ss, c, &mut s);
-    lines::relation_test(house(), a, &t, &d, &s);
+    lines::folded_witness(rt, house(), profile, ss, c, &mut s);
+    lines::relation_test(rt, house(), a, &t, &d, &s);
 }
 
-fn joined(profile: Profile, t1: &[u64], d1: &[i64], t2: &[u64], d2: &[i64], v: &[i64]) {
+fn joined(
+    rt: &impl Print,
+    profile: Profile,
+    t1: &[u64],
+    d1: &[i64],
+    t2: &[u64],
+    d2: &[i64],
+    v: &[i64],
+) {
     let mut t = [111u64; 16];
     let mut d = [-222i64; 16];
     let given = joins::join(house(), profile, t1, d1, 1, t2, d2, 1, v, &mut t, &mut d);
-    lines::join(given, &t, &d);
+    lines::join(rt, given, &t, &d);
 }
 
 // The length that a general call has, of v, S~, D2, V and D~ in turn, in a fresh call: 7.
-fn lengths(a: &[u64], repeated: &[i64], c: &[u8], t1: &[u64], d1: &[i64]) {
+fn lengths(rt: &impl Print, a: &[u64], repeated: &[i64], c: &[u8], t1: &[u64], d1: &[i64]) {
     let mut t = [111u64; 4];
     let mut d = [-222i64; 1];
     let mut s = [-333i64; 32];
-    lines::commit(house(), Profile::Fresh, a, repeated, &mut t, &mut d);
-    lines::folded_witness(house(), Profile::Fresh, &[0; 256], c, &mut s);
-    judged(c, t1, d1, &[0; 4], &[0; 4], &[0; 2], &[0; 48], &[0; 78]);
-    judged(c, t1, d1, &[0; 4], &[0; 1], &[0; 4], &[0; 48], &[0; 78]);
-    judged(c, t1, d1, &[0; 4], &[0; 1], &[0; 2], &[0; 48], &[0; 136]);
+    lines::commit(rt, house(), Profile::Fresh, a, repeated, &mut t, &mut d);
+    lines::folded_witness(rt, house(), Profile::Fresh, &[0; 256], c, &mut s);
+    judged(rt, c, t1, d1, &[0; 4], &[0; 4], &[0; 2], &[0; 48], &[0; 78]);
+    judged(rt, c, t1, d1, &[0; 4], &[0; 1], &[0; 4], &[0; 48], &[0; 78]);
+    judged(
+        rt, c, t1, d1, &[0; 4], &[0; 1], &[0; 2], &[0; 48], &[0; 136],
+    );
 }
 
 // The fresh verdict on these.
 fn judged(
+    rt: &impl Print,
     c: &[u8],
     t1: &[u64],
     d1: &[i64],
@@ -192,8 +220,9 @@ fn judged(
 ) {
     let mut t = [111u64; 8];
     let mut d = [-222i64; 4];
-    print::text(b"fold");
+    print::text(rt, b"fold");
     lines::verdict(
+        rt,
         house(),
         Profile::Fresh,
         t1,

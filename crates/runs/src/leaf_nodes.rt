@@ -24,8 +24,8 @@ pub(crate) fn leaf(
     requires setting_value { small program_limits (parameters_of setting) ≡ true }
     requires fits { Fits (matrix_S (parameters_of setting)) s.now }
     requires fits_node { FitsNode (parameters_of setting) (node_of t.old d.old 0 w.old) }
-    ensures { ends (made_of result) (node_after t d (made_leaves result) w)
-        ≡ leaf_of (parameters_of setting) a.now s.now (node_before t d 0 w) }
+    ensures { ends (made_of result) (node_after t.new d.new (made_leaves result) w.new)
+        ≡ leaf_of (parameters_of setting) a.now s.now (node_before t.old d.old 0 w.old) }
 {
     let mut made_t = [0u64; 16];
     let mut made_d = [0i64; 4];

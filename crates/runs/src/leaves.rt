@@ -9,7 +9,7 @@ use lova::Made;
 use states::{Due, Run, Taken};
 
 // The record `leaf`: the run state goes in with it, and is handed back with what comes of its line.
-#[derive(Drop)]
+#[derive(Clone, Copy)]
 pub(crate) struct Leaf {
     pub run: Run,
 }
@@ -40,10 +40,11 @@ impl Leaf {
         requires set { Set self.run.setting × LeafDue self.run.due due }
         requires lent_node { LentNode a.now (node_of t.old d.old 0 s.old) }
         ensures whatever { Whatever (λ m.
-            step_of result (with_leaf due (node_after t d 0 s) (with_A a.now m)) out.new
+            step_of result (with_leaf due (node_after t.new d.new 0 s.new) (with_A a.now m)) out.new
             ≡ line_due self.run.due self.run (with_A a.now m) line.now) }
         ensures safe { Safe result self.run }
-        ensures s_value { result.run.due ≡ Dues.Nothing → node_after t d 0 s ≡ node_before t d 0 s }
+        ensures s_value { result.run.due ≡ Dues.Nothing
+            → node_after t.new d.new 0 s.new ≡ node_before t.old d.old 0 s.old }
     {
         let state = self.run;
         let setting = state.setting;

@@ -6,7 +6,7 @@ ghost use Rattle.states.specs.declared.Due.TheVariants as Dues;
 use states::{Due, Run, Taken};
 
 // The record `param`: the run state goes in with it, and is handed back with what comes of its line.
-#[derive(Drop)]
+#[derive(Clone, Copy)]
 pub(crate) struct Param {
     pub run: Run,
 }

@@ -9,7 +9,7 @@ ghost use Rattle.states.specs.declared.Due.TheVariants as Dues;
 use states::{Due, Run, Taken};
 
 // The record `a`: the run state goes in with it, and is handed back with what comes of its line.
-#[derive(Drop)]
+#[derive(Clone, Copy)]
 pub(crate) struct Matrix {
     pub run: Run,
 }

@@ -1,4 +1,6 @@
 // The tests of slices that refusals rest on.
+#![tactic(auto)]
+
 ghost use Rattle.std.specs.Prelude.{◌≡◌, ◌&&◌, ◌*◌, leb, pos, nat_abs, length, get_or};
 ghost use Rattle.integers.specs.Tests.{all};
 ghost use Rattle.matrices.specs.Matrices.{squared_length};
@@ -79,7 +81,7 @@ pub fn both(a: bool, b: bool) -> bool
 // Whether t and d have the lengths of an instance's T and D; a first instance and a folded one are general.
 pub fn instance_fits(setting: Setting, profile: Profile, t: &[u64], d: &[i64]) -> bool
     requires { Rebuilt setting }
-    ensures { result ≡ fits_right (parameters_of setting) profile (instance_before t d) }
+    ensures { result ≡ fits_right (parameters_of setting) profile (instance_before t.now d.now) }
 {
     let right = profile.right(setting.t);
     both(t.len() == setting.n * right, d.len() == right * right)
@@ -88,7 +90,7 @@ pub fn instance_fits(setting: Setting, profile: Profile, t: &[u64], d: &[i64]) -
 // Whether v, tt and dd have the lengths of a message's V, T~ and D~.
 pub fn message_fits(setting: Setting, profile: Profile, v: &[i64], tt: &[u64], dd: &[i64]) -> bool
     requires { Rebuilt setting }
-    ensures { result ≡ fits_message (parameters_of setting) profile (message_before v tt dd) }
+    ensures { result ≡ fits_message (parameters_of setting) profile (message_before v.now tt.now dd.now) }
 {
     let right = profile.right(setting.t);
     let wide = (setting.t + right) * setting.k;

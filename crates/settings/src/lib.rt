@@ -1,4 +1,6 @@
 // The setting of a fold: its limits, the checking constructor and the house list.
+#![tactic(auto)]
+
 ghost use Rattle.std.specs.Prelude.{◌≡◌, ◌&&◌};
 ghost use Rattle.integers.specs.Ranges.{within};
 ghost use Rattle.settings.specs.Settings.{limits, setting_refusal, parameters_of, refused_of, checked_of};
@@ -8,7 +10,7 @@ mod bounds;
 
 // The five numbers of a setting, with what they fix: k digits to an entry, N columns of a digit witness, the powers of
 // b.
-#[derive(Drop)]
+#[derive(Clone, Copy)]
 pub struct Setting {
     pub n: usize,
     pub m: usize,
@@ -22,7 +24,7 @@ pub struct Setting {
 
 // The number of a refusal, or 0 and the setting. (An enum cannot hold the array.) Beside a refusal all of the setting
 // is zero.
-#[derive(Drop)]
+#[derive(Clone, Copy)]
 pub struct Checked {
     pub refusal: u8,
     pub setting: Setting,

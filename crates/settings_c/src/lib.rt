@@ -1,5 +1,7 @@
 // The setting check and the house list for C: each function writes numbers of a setting and returns a code.
 // `include/lova.h` declares them, beside those of `prover_c` and `verifier_c`.
+#![tactic(auto)]
+
 ghost use Rattle.std.specs.Prelude.{◌≡◌};
 ghost use Rattle.settings.specs.HouseList.{parameters};
 ghost use Rattle.codes.specs.Codes.{returned, coded};

@@ -1,4 +1,6 @@
 // Decimal numerals of signed words, read from bytes.
+#![tactic(auto)]
+
 ghost use Rattle.std.specs.Prelude.{◌≡◌};
 ghost use Rattle.numerals.specs.Numerals.{read_signed, unsigned_of, with_minus, without_minus, fit_signed};
 

@@ -1,4 +1,6 @@
 // A matrix of small numbers times a decoded challenge, stored by columns, by sums of 32 products.
+#![tactic(auto)]
+
 ghost use Rattle.std.specs.Prelude.{◌≡◌, ◌+◌, ◌*◌, ◌≤◌, length};
 ghost use Rattle.integers.specs.Lists.{build};
 ghost use Rattle.matrices.specs.Matrices.{product};

@@ -1,4 +1,6 @@
 // The Gram matrix of a matrix of small numbers, as its lower triangle, by blocks of 32 rows.
+#![tactic(auto)]
+
 ghost use Rattle.std.specs.Prelude.{◌≡◌, ◌+◌, ◌*◌, ◌^◌, ◌<◌, ◌≤◌, pos, nat_abs, ◌+ℤ◌, ◌*ℤ◌, length, get_or};
 ghost use Rattle.integers.specs.Lists.{build};
 ghost use Rattle.matrices.specs.Matrices.{gram};

@@ -1,4 +1,6 @@
 // Small signed numbers: the row of zeros that a sum of their products starts from, and an entry in 16 bits.
+#![tactic(auto)]
+
 ghost use Rattle.std.specs.Prelude.{◌≡◌, pos, length, replicate, ◌<◌};
 ghost use Rattle.matrices.specs.Tables.{signed};
 ghost use Rattle.small_rows.specs.Small.{SmallMatrix};

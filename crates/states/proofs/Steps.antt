@@ -1,12 +1,10 @@
 -- What is set for what is due, and what a line that is refused comes to.
 use mathlib.Core.Path.{◌≡◌, refl, ap, subst}
 use mathlib.Core.Bool.{false}
-use mathlib.Core.List.{List, [], ◌∷◌}
+use mathlib.Core.List.{List}
 use Prim.Native.Nat.{ℕ, ◌+◌, ◌≤◌}
 use native.Mathlib.Omega.{arith}
 use lib.ListN.{take}
-use denote.Enum.Declared.{tag_of}
-use types.Run.{OneOf, miss}
 use Rattle.settings.specs.Settings.{Parameters}
 use Rattle.settings.specs.declared.Setting.{Setting}
 use Rattle.chain.specs.Reports.{refused_line}
@@ -15,7 +13,6 @@ use Rattle.states.specs.Lent.{Store, Whatever, Sound, SetFor, Safe, stage_of, co
 use Rattle.states.specs.declared.Due.{Due}
 use Rattle.states.specs.declared.Due.TheVariants as Dues
 use Rattle.states.specs.declared.Run.{Run}
-use Rattle.states.specs.contracts.Due.{the_type}
 
 -- what is set for what is due
 pub set_for : (r : Run) (d : Due) → Sound r → r.due ≡ d → SetFor d r.setting
@@ -41,18 +38,15 @@ refused-comes r number n out e m = ap (λ (o : List ℕ). step (tally (r.line + 
 
 -- ---- refuse_bad
 
--- the places in `Due` before `Nothing`: a run that has one of them due has not stopped
-abbrev pub before-nothing : List ℕ
-before-nothing = 0 ∷ 1 ∷ 2 ∷ 3 ∷ 4 ∷ []
-
-pub not_stopped : (d : Due) (under : ℕ) (p : Parameters) (m : Store) → OneOf before-nothing (tag_of the_type d) → is_stopped (stage_of d under p m) ≡ false
+-- a run that has something due has not stopped
+pub not_stopped : (d : Due) (under : ℕ) (p : Parameters) (m : Store) → (d ≡ Dues.Nothing → ⊥) → is_stopped (stage_of d under p m) ≡ false
 unfolding stage_of is_stopped
 not_stopped Dues.Param under p m h = refl
 not_stopped Dues.Matrix under p m h = refl
 not_stopped Dues.First under p m h = refl
 not_stopped Dues.Leaf under p m h = refl
 not_stopped Dues.Challenge under p m h = refl
-not_stopped Dues.Nothing under p m h = absurd (miss before-nothing (tag_of the_type Dues.Nothing) tt h)
+not_stopped Dues.Nothing under p m h = absurd (h refl)
 
 -- where a run has not stopped, a line that is no record is 13
 pub bad_refused : (n : Counts) (s : Stage) → is_stopped s ≡ false → bad_line n s ≡ refuse n 13

@@ -3,7 +3,6 @@ use Rattle.std.specs.Prelude.{◌≡◌, ◌⊎◌, true, List, ℕ, ◌+◌, �
 use Rattle.settings.specs.Settings.{Parameters, parameters_of}
 use Rattle.settings.specs.declared.Setting.{Setting}
 use Rattle.lova.specs.Stored.{matrix_A, matrix_T, matrix_S, matrix_D}
-use Rattle.lova.specs.Lent.{LentSlice}
 use Rattle.lova.specs.Calls.{Rebuilt, Fits}
 use Rattle.chain.specs.Limits.{small, program_limits, largest}
 use Rattle.chain.specs.Nodes.{Node, node_of}
@@ -28,12 +27,12 @@ abbrev pub store : List ℕ → List ℕ → List ℤ → List ℤ → List ℕ 
 store A T₁ D₁ S₁ T₂ D₂ S₂ = record { A = A; T₁ = T₁; D₁ = D₁; S₁ = S₁; T₂ = T₂; D₂ = D₂; S₂ = S₂ }
 
 -- what seven lent slices hold, at entry and at exit
-module _ (a t₁ : LentSlice ℕ) (d₁ s₁ : LentSlice ℤ) (t₂ : LentSlice ℕ) (d₂ s₂ : LentSlice ℤ) where
+module _ (a t₁ : List ℕ) (d₁ s₁ : List ℤ) (t₂ : List ℕ) (d₂ s₂ : List ℤ) where
   abbrev pub store_before : Store
-  store_before = store a.entry.now t₁.entry.now d₁.entry.now s₁.entry.now t₂.entry.now d₂.entry.now s₂.entry.now
+  store_before = store a t₁ d₁ s₁ t₂ d₂ s₂
 
   abbrev pub store_after : Store
-  store_after = store a.exit.now t₁.exit.now d₁.exit.now s₁.exit.now t₂.exit.now d₂.exit.now s₂.exit.now
+  store_after = store a t₁ d₁ s₁ t₂ d₂ s₂
 
 -- a statement that holds whatever the lent matrices hold
 abbrev pub Whatever : (Store → Type 0) → Type 0

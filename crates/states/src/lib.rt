@@ -1,5 +1,7 @@
 // The run state of the chain program: what is due and what was counted. It goes into each record's handling by value
 // and is handed back; the matrices stay in lent slices.
+#![tactic(auto)]
+
 ghost use Rattle.std.specs.Prelude.{◌≡◌};
 ghost use Rattle.chain.specs.Chain.{start, refuse, bad_line};
 ghost use Rattle.states.specs.Lent.{Whatever, state_of, counts_of, step_of, Sound, Ready, Safe};
@@ -7,7 +9,7 @@ ghost use Rattle.states.specs.Lent.{Whatever, state_of, counts_of, step_of, Soun
 use settings::Setting;
 
 // The record that is due; nothing once a line was refused.
-#[derive(Drop)]
+#[derive(Clone, Copy)]
 pub enum Due {
     Param,
     Matrix,
@@ -19,7 +21,7 @@ pub enum Due {
 
 // The run state: what is due, how many lines, leaves and folds were taken, how many leaves are under the accumulated
 // node, and the setting once `param` was taken.
-#[derive(Drop)]
+#[derive(Clone, Copy)]
 pub struct Run {
     pub due: Due,
     pub line: u64,
@@ -30,7 +32,7 @@ pub struct Run {
 }
 
 // The run state after a line, and how many bytes of output stand at the buffer's start.
-#[derive(Drop)]
+#[derive(Clone, Copy)]
 pub struct Taken {
     pub run: Run,
     pub length: usize,

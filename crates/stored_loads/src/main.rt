@@ -1,21 +1,20 @@
 // Runs the load program on each stored file whose name is an argument.
+#![tactic(auto)]
+
+use std::rt::{Env, Files};
 
 // Runs the file whose name is argument i.
-fn run_file(i: usize) {
-    let fd = stored_files::open(i);
-    if fd < 0 {
+fn run_file(rt: &(impl Env + Files + Print + Eprint), i: usize) {
+    let Some(mut file) = stored_files::open(rt, i) else {
         return;
-    }
-    let mut input = io::large_buffer();
-    load_runs::run(fd, &mut input);
-    libc::close(fd);
+    };
+    let mut input = [0u8; 65536];
+    load_runs::run(rt, &mut file, &mut input);
 }
 
-fn main() {
-    let count = os::arg_count();
-    let mut i: usize = 1;
-    while i < count {
-        run_file(i);
-        i += 1;
+fn main(rt: HostRuntime) {
+    let count = stored_files::arg_count(&rt);
+    for i in 1..count {
+        run_file(&rt, i);
     }
 }

@@ -1,10 +1,12 @@
 // The ternary entries of a line of fields, read.
+#![tactic(auto)]
+
 ghost use Rattle.std.specs.Prelude.{◌≡◌, length};
 ghost use Rattle.text.specs.Fields.{record_of, read_ternary, answer_of};
 ghost use Rattle.ternary_readers.specs.Entries.{byte_of};
 
 // The byte of a ternary entry, or that there is none.
-#[derive(Drop)]
+#[derive(Clone, Copy)]
 enum Entry {
     Byte(u8),
     Bad,

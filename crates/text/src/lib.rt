@@ -1,4 +1,6 @@
 // Lines of fields parted by tabs.
+#![tactic(auto)]
+
 ghost use Rattle.std.specs.Prelude.{◌≡◌, ◌+◌, take, drop};
 ghost use Rattle.text.specs.Fields.{until_tab, same};
 

@@ -1,61 +1,64 @@
 // Runs the points of request 10 on the library, and writes what it answers; the check compares that with `stdout`. They
 // are the rows of `turns/specs/Points.antt`, in their order. No contract can say what is written, so the functions here
 // promise only that they are safe and end.
+#![tactic(auto)]
+
 use groups::GROUPS;
 use shown::print;
 use turns::{Next, Turn};
 
-fn main() {
-    print::text(b"Request 10: taking turns\n");
+fn main(rt: HostRuntime) {
+    print::text(&rt, b"Request 10: taking turns\n");
     let agreed: [u64; GROUPS] = [3, 1, 2, 16, 1, 1, 4, 1];
     let everybody = [9u32; GROUPS];
     let nobody = [0u32; GROUPS];
-    called(agreed, everybody, 4, 0);
-    called(agreed, everybody, 4, 15);
-    called(agreed, everybody, 1, 3);
-    called(agreed, everybody, 8, 1);
-    called(agreed, [0, 0, 4294967295, 0, 0, 0, 0, 0], 4, 16);
-    called(agreed, [0, 0, 1, 0, 0, 0, 0, 0], 4, 1);
-    called(agreed, [0, 0, 5, 0, 0, 0, 0, 0], 3, 2);
-    called(agreed, nobody, 3, 1);
-    called([0, 1, 2, 16, 1, 1, 4, 1], everybody, 2, 0);
-    called([3, 1, 2, 16, 1, 1, 4, 17], everybody, 2, 0);
-    called(agreed, everybody, 0, 0);
-    called(agreed, everybody, 9, 0);
-    called(agreed, everybody, 1, 4);
-    called(agreed, nobody, 1, 4);
+    called(&rt, agreed, everybody, 4, 0);
+    called(&rt, agreed, everybody, 4, 15);
+    called(&rt, agreed, everybody, 1, 3);
+    called(&rt, agreed, everybody, 8, 1);
+    called(&rt, agreed, [0, 0, 4294967295, 0, 0, 0, 0, 0], 4, 16);
+    called(&rt, agreed, [0, 0, 1, 0, 0, 0, 0, 0], 4, 1);
+    called(&rt, agreed, [0, 0, 5, 0, 0, 0, 0, 0], 3, 2);
+    called(&rt, agreed, nobody, 3, 1);
+    called(&rt, [0, 1, 2, 16, 1, 1, 4, 1], everybody, 2, 0);
+    called(&rt, [3, 1, 2, 16, 1, 1, 4, 17], everybody, 2, 0);
+    called(&rt, agreed, everybody, 0, 0);
+    called(&rt, agreed, everybody, 9, 0);
+    called(&rt, agreed, everybody, 1, 4);
+    called(&rt, agreed, nobody, 1, 4);
 }
 
 // A call with this turn: whose fold is next, the turn and the counts that come back.
-fn called(weights: [u64; GROUPS], waiting: [u32; GROUPS], group: u64, used: u64) {
-    print::number(b"group ", group);
-    print::number(b", used ", used);
+fn called(rt: &impl Print, weights: [u64; GROUPS], waiting: [u32; GROUPS], group: u64, used: u64) {
+    print::number(rt, b"group ", group);
+    print::number(rt, b", used ", used);
     let came = Turn {
         group: group,
         used: used,
     };
     let served = turns::next_fold(weights, waiting, came);
     let next = served.next;
-    answered(next);
+    answered(rt, next);
     let turn = served.turn;
-    print::number(b"; group ", turn.group);
-    print::number(b", used ", turn.used);
+    print::number(rt, b"; group ", turn.group);
+    print::number(rt, b", used ", turn.used);
     let left = served.waiting;
-    counted(left);
+    counted(rt, left);
 }
 
 // Whose fold is next.
-fn answered(next: Next) {
+fn answered(rt: &impl Print, next: Next) {
     match next {
-        Next::Group(number) => print::number(b": group ", number),
-        Next::None => print::text(b": none"),
-        Next::Refused(number) => print::number(b": refused with ", number as u64),
+        Next::Group(number) => print::number(rt, b": group ", number),
+        Next::None => print::text(rt, b": none"),
+        Next::Refused(number) => print::number(rt, b": refused with ", number as u64),
     }
 }
 
 // The waiting counts, to the end of the line.
-fn counted(left: [u32; GROUPS]) {
+fn counted(rt: &impl Print, left: [u32; GROUPS]) {
     print::words(
+        rt,
         b", waiting",
         &[
             left[0] as u64,
@@ -68,5 +71,5 @@ fn counted(left: [u32; GROUPS]) {
             left[7] as u64,
         ],
     );
-    print::end();
+    print::end(rt);
 }

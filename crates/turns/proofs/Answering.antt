@@ -1,7 +1,7 @@
 -- What each answer means.
 use mathlib.Core.Path.{◌≡◌, refl, sym, ap, ◌∙◌}
 use mathlib.Core.Logic.{◌≢◌, ◌↔◌, ◌⊎◌, inl, inr, ⊎_elim}
-use mathlib.Core.Bool.{Bool, true, false, not, and-false}
+use mathlib.Core.Bool.{Bool, true, false, and-false}
 use mathlib.Core.List.{List}
 use Prim.Native.Nat.{ℕ, zero, suc, ◌+◌, ◌≤◌, ◌<◌}
 use native.Mathlib.Omega.{arith}
@@ -10,7 +10,7 @@ use borrow.Author.Tests.{lt-ltb, le-ltb}
 use Rattle.integers.proofs.Tests.{true-is, le_or_lt}
 use Rattle.groups.specs.Groups.{groups, Group, ◌of◌}
 use Rattle.turns.specs.declared.Turn.{Turn}
-use Rattle.turns.specs.Turns.{turn, is_proper, waits, after, next_waiting, goes_on, next_turn, Meaning, named, none, refused, counts_after, one_less, returns, next_fold}
+use Rattle.turns.specs.Turns.{turn, is_proper, after, next_waiting, goes_on, next_turn, Meaning, named, none, refused, counts_after, one_less, returns, next_fold}
 use Rattle.turns.specs.Calls.{Proper, TurnedAway, NobodyWaits, further}
 use Rattle.turns.proofs.Order.{after-group}
 use Rattle.turns.proofs.Finding.{proper_intro, proper_elim, away_elim, away_intro, search_none, search_by, turn_on, turn-over, says-refused, says-group, says_none, counted, Ways, finding, nobody, ways, kind, apart}
@@ -64,10 +64,10 @@ module _ (w W : List ℕ) (t : Turn) where
     group-returns h used e low =
         counted w W t (named h) (turn h used) (one_less W h) (says-group w W t h used is-proper e (λ z. absurd (omega (arith, z, low)))) refl
 
-    pub goes_on : t.used < w of t.group → 0 < W of t.group
+    pub goes_on_lem : t.used < w of t.group → 0 < W of t.group
         → next_fold w W t ≡ returns (named t.group) (turn t.group (t.used + 1)) (one_less W t.group)
     unfolding goes_on
-    goes_on below waiting =
+    goes_on_lem below waiting =
         sym (group-returns t.group (t.used + 1) (turn_on w W t (rw (lt-ltb t.used (w of t.group) below, lt-ltb 0 (W of t.group) waiting) refl)) p.group.0)
 
     pub passes_on : (w of t.group ≤ t.used) ⊎ (W of t.group ≡ 0)

@@ -1,7 +1,6 @@
 -- What is proved of taking turns, for all weights w, waiting counts W and turns t.
 use mathlib.Core.Path.{◌≡◌}
 use mathlib.Core.Logic.{◌↔◌, ◌⊎◌, ⊎_elim}
-use mathlib.Core.Bool.{not}
 use mathlib.Core.List.{List}
 use Prim.Native.Nat.{ℕ, suc, ◌+◌, ◌≤◌, ◌<◌}
 use native.Mathlib.Omega.{arith}
@@ -41,7 +40,7 @@ module _ (w W : List ℕ) (t : Turn) where
     -- a turn goes on below its weight while its group waits
     pub goes_on : t.used < w of t.group → 0 < W of t.group
         → next_fold w W t ≡ returns (named t.group) (turn t.group (t.used + 1)) (one_less W t.group)
-    goes_on = answering.goes_on w W t p
+    goes_on = answering.goes_on_lem w W t p
 
     -- else it passes to the first group that waits in rising order, from 8 to 1
     pub passes_on : (w of t.group ≤ t.used) ⊎ (W of t.group ≡ 0)

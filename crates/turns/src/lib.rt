@@ -1,4 +1,6 @@
 // Taking turns on the machine: which group's fold is next.
+#![tactic(auto)]
+
 ghost use Rattle.std.specs.Prelude.{◌≡◌, ◌<◌, length};
 ghost use Rattle.groups.specs.Groups.{groups, Group, ◌of◌};
 ghost use Rattle.turns.specs.Turns.{turn, weights_inside, is_proper, goes_on, next_waiting, next_of, finds, found};
@@ -12,14 +14,14 @@ pub const MIN_WEIGHT: u64 = 1;
 pub const MAX_WEIGHT: u64 = 16;
 
 // A turn: its group, and the folds used in it.
-#[derive(Drop)]
+#[derive(Clone, Copy)]
 pub struct Turn {
     pub group: u64,
     pub used: u64,
 }
 
 // Whose fold is next.
-#[derive(Drop)]
+#[derive(Clone, Copy)]
 pub enum Next {
     Group(u64),
     None,
@@ -27,14 +29,14 @@ pub enum Next {
 }
 
 // Whose fold is next, and the turn with this fold counted.
-#[derive(Drop)]
+#[derive(Clone, Copy)]
 pub struct Found {
     pub next: Next,
     pub turn: Turn,
 }
 
 // The same with the waiting counts, one less for the group that is named.
-#[derive(Drop)]
+#[derive(Clone, Copy)]
 pub struct Served {
     pub next: Next,
     pub turn: Turn,

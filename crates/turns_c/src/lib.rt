@@ -1,5 +1,7 @@
 // Taking turns for C: one function, which writes the turn and the waiting counts and returns a code. `include/lova.h`
 // declares it.
+#![tactic(auto)]
+
 ghost use Rattle.std.specs.Prelude.{◌≡◌};
 ghost use Rattle.codes.specs.Codes.{returned};
 ghost use Rattle.turns_c.specs.Given.{lent, next_given};

@@ -1,4 +1,6 @@
 // Verify: the verdict on a message, and on yes the folded instance.
+#![tactic(auto)]
+
 ghost use Rattle.std.specs.Prelude.{◌≡◌, ◌&&◌, ◌*◌, pos, length};
 ghost use Rattle.std.specs.Int.Signed.{le_z};
 ghost use Rattle.integers.specs.Tests.{all};
@@ -34,11 +36,11 @@ fn lengths_fit(
 ) -> bool
     requires { Rebuilt setting }
     ensures { result
-        ≡ (fits_instance (parameters_of setting) (instance_before t1 d1)
-        && fits_right (parameters_of setting) profile (instance_before t2 d2)
-        && fits_message (parameters_of setting) profile (message_before v tt dd)
+        ≡ (fits_instance (parameters_of setting) (instance_before t1.now d1.now)
+        && fits_right (parameters_of setting) profile (instance_before t2.now d2.now)
+        && fits_message (parameters_of setting) profile (message_before v.now tt.now dd.now)
         && fits_C (parameters_of setting) c.now
-        && fits_instance (parameters_of setting) (instance_before t d)) }
+        && fits_instance (parameters_of setting) (instance_before t.now d.now)) }
 {
     if !scans::instance_fits(setting, Profile::General, t1, d1) {
         return false;
@@ -75,8 +77,9 @@ fn verdict_refusal(
 ) -> u8
     requires { Rebuilt setting }
     ensures { result
-        ≡ first_of (verdict_rules (parameters_of setting) profile (counted (instance_before t1 d1) leaves1)
-        (counted (instance_before t2 d2) leaves2) (message_before v tt dd) c.now (instance_before t d)) }
+        ≡ first_of (verdict_rules (parameters_of setting) profile (counted (instance_before t1.now d1.now) leaves1)
+        (counted (instance_before t2.now d2.now) leaves2) (message_before v.now tt.now dd.now) c.now
+        (instance_before t.now d.now)) }
 {
     if !lengths_fit(setting, profile, t1, d1, t2, d2, v, tt, dd, c, t, d) {
         return 7;
@@ -182,9 +185,10 @@ pub fn verify(
     t: &mut [u64],
     d: &mut [i64],
 ) -> Verdict
-    ensures { ends (verdict_of result) (counted (instance_after t d) (verdict_leaves result))
-        ≡ verdict_in (parameters_of setting) profile (counted (instance_before t1 d1) leaves1)
-        (counted (instance_before t2 d2) leaves2) (message_before v tt dd) c.now (instance_before t d) }
+    ensures { ends (verdict_of result) (counted (instance_after t.new d.new) (verdict_leaves result))
+        ≡ verdict_in (parameters_of setting) profile (counted (instance_before t1.now d1.now) leaves1)
+        (counted (instance_before t2.now d2.now) leaves2) (message_before v.now tt.now dd.now) c.now
+        (instance_before t.old d.old) }
 {
     let checked = setting.rebuilt();
     let number = checked.refusal;

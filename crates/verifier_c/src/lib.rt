@@ -1,6 +1,8 @@
 // The verifier's operations and the relation test for C. A setting is its five numbers n, m, t, b and bound; each
 // function returns a code. `include/lova.h` declares them, beside those of `prover_c` and `settings_c`; those with a
 // fresh second instance stand in `verifier_fresh_c`.
+#![tactic(auto)]
+
 ghost use Rattle.std.specs.Prelude.{◌≡◌};
 ghost use Rattle.settings.specs.HouseList.{parameters};
 ghost use Rattle.lova.specs.Stored.{counted};
@@ -31,10 +33,10 @@ pub extern "C" fn lova_join(
     d_out: &mut [i64],
     leaves_out: &mut u32,
 ) -> u8
-    ensures { returned result (counted (instance_after t_out d_out) leaves_out.new)
+    ensures { returned result (counted (instance_after t_out.new d_out.new) leaves_out.new)
         ≡ coded (placed leaves_out.old (join (parameters n m t b bound)
-        (counted (instance_before t1 d1) leaves1) (counted (instance_before t2 d2) leaves2) v.now
-        (instance_before t_out d_out))) }
+        (counted (instance_before t1.now d1.now) leaves1) (counted (instance_before t2.now d2.now) leaves2) v.now
+        (instance_before t_out.old d_out.old))) }
 {
     let setting = codes::setting_of(n, m, t, b, bound);
     let made = joins::join(
@@ -77,10 +79,10 @@ pub extern "C" fn lova_verify(
     d_out: &mut [i64],
     leaves_out: &mut u32,
 ) -> u8
-    ensures { returned result (counted (instance_after t_out d_out) leaves_out.new)
+    ensures { returned result (counted (instance_after t_out.new d_out.new) leaves_out.new)
         ≡ coded (placed leaves_out.old (verdict (parameters n m t b bound)
-        (counted (instance_before t1 d1) leaves1) (counted (instance_before t2 d2) leaves2) (message_before v tt dd)
-        c.now (instance_before t_out d_out))) }
+        (counted (instance_before t1.now d1.now) leaves1) (counted (instance_before t2.now d2.now) leaves2)
+        (message_before v.now tt.now dd.now) c.now (instance_before t_out.old d_out.old))) }
 {
     let setting = codes::setting_of(n, m, t, b, bound);
     let verdict = verdicts::verify(
@@ -117,7 +119,7 @@ pub extern "C" fn lova_test_relation(
     s: &[i64],
 ) -> u8
     ensures { result
-        ≡ code_of (relation (parameters n m t b bound) a.now (instance_before t_in d_in)
+        ≡ code_of (relation (parameters n m t b bound) a.now (instance_before t_in.now d_in.now)
         s.now).answer }
 {
     let setting = codes::setting_of(n, m, t, b, bound);

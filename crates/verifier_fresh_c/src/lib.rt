@@ -1,5 +1,7 @@
 // The verifier's operations for C with a fresh second instance. They are those of `verifier_c` but for the profile, and
 // stand in a crate of their own so that the compiler makes each of them for its profile.
+#![tactic(auto)]
+
 ghost use Rattle.std.specs.Prelude.{◌≡◌};
 ghost use Rattle.settings.specs.HouseList.{parameters};
 ghost use Rattle.lova.specs.declared.Profile.TheVariants.{Fresh};
@@ -31,10 +33,10 @@ pub extern "C" fn lova_join_fresh(
     d_out: &mut [i64],
     leaves_out: &mut u32,
 ) -> u8
-    ensures { returned result (counted (instance_after t_out d_out) leaves_out.new)
+    ensures { returned result (counted (instance_after t_out.new d_out.new) leaves_out.new)
         ≡ coded (placed leaves_out.old (join_in (parameters n m t b bound) Fresh
-        (counted (instance_before t1 d1) leaves1) (counted (instance_before t2 d2) leaves2) v.now
-        (instance_before t_out d_out))) }
+        (counted (instance_before t1.now d1.now) leaves1) (counted (instance_before t2.now d2.now) leaves2) v.now
+        (instance_before t_out.old d_out.old))) }
 {
     let setting = codes::setting_of(n, m, t, b, bound);
     let made = joins::join(
@@ -77,10 +79,10 @@ pub extern "C" fn lova_verify_fresh(
     d_out: &mut [i64],
     leaves_out: &mut u32,
 ) -> u8
-    ensures { returned result (counted (instance_after t_out d_out) leaves_out.new)
+    ensures { returned result (counted (instance_after t_out.new d_out.new) leaves_out.new)
         ≡ coded (placed leaves_out.old (verdict_in (parameters n m t b bound) Fresh
-        (counted (instance_before t1 d1) leaves1) (counted (instance_before t2 d2) leaves2) (message_before v tt dd)
-        c.now (instance_before t_out d_out))) }
+        (counted (instance_before t1.now d1.now) leaves1) (counted (instance_before t2.now d2.now) leaves2)
+        (message_before v.now tt.now dd.now) c.now (instance_before t_out.old d_out.old))) }
 {
     let setting = codes::setting_of(n, m, t, b, bound);
     let verdict = verdicts::verify(

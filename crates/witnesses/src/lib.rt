@@ -1,4 +1,6 @@
 // The folded witness: S' = S~ C.
+#![tactic(auto)]
+
 ghost use Rattle.std.specs.Prelude.{◌≡◌, ◌&&◌};
 ghost use Rattle.settings.specs.Rules.{first_of};
 ghost use Rattle.settings.specs.Settings.{parameters_of};

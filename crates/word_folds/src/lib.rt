@@ -1,4 +1,6 @@
 // The product T~ C modulo 2^64 of a matrix of words, stored by rows, and a decoded challenge, stored by columns.
+#![tactic(auto)]
+
 ghost use Rattle.std.specs.Prelude.{◌≡◌, ◌+◌, ◌*◌, ◌≤◌, length};
 ghost use Rattle.integers.specs.Lists.{build};
 ghost use Rattle.integers.specs.Residues.{word};

@@ -1,4 +1,6 @@
 // The product A S modulo 2^64 of a matrix of words and a witness, stored by rows.
+#![tactic(auto)]
+
 ghost use Rattle.std.specs.Prelude.{◌≡◌, ◌+◌, ◌*◌, ◌<◌, ◌≤◌, length};
 ghost use Rattle.integers.specs.Lists.{build};
 ghost use Rattle.integers.specs.Residues.{word};

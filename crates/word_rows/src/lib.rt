@@ -1,4 +1,6 @@
 // A row of zeros, in which a product modulo 2^64 is summed.
+#![tactic(auto)]
+
 ghost use Rattle.std.specs.Prelude.{◌≡◌, length};
 ghost use Rattle.integers.specs.Lists.{build};
 

@@ -1,0 +1,12 @@
+-- `field_readers::read_u64s` meets its contract: i fields are read, and the next starts at `at`.
+use Prim.Native.Nat.{◌-◌}
+use lib.ListN.{length}
+use Rattle.text.specs.Fields.{read_u64}
+use Rattle.text.proofs.Fields.{Reading}
+use Rattle.field_readers.proofs.read_u64s.Given as goal
+
+abbrev pub invariant-loop-i : goal.invariant-loop-i
+invariant-loop-i l = Reading read_u64 l.word (length l.initial.out) l.line l.i l.at l.out
+
+abbrev pub decreases-loop-i : goal.decreases-loop-i
+decreases-loop-i l = length l.initial.out - l.i

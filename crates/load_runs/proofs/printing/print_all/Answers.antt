@@ -1,0 +1,14 @@
+-- `print_all` meets its contract: the blocks that were written, and what is left, are all that there was to come.
+use Rattle.std.proofs.Common.{◌∙◌, take}
+use Rattle.load_files.specs.Pending.{to_come}
+use Rattle.load_runs.proofs.Blocks.{written-more}
+use Rattle.load_runs.proofs.printing.print_all.Goals as goal
+
+pub loop-out-preserved : goal.loop-out-preserved
+loop-out-preserved g c =
+    let f = c.fill-filled in
+    let l = c.loop-out in (
+      f.ensures.sound_2,
+      f.auto.out ∙ l.invariant.1,
+      written-more (take f.result.length f.new.out) (to_come f.result.pending) (to_come l.rest) f.ensures.pending_after _ l.invariant.2,
+    )

@@ -1,0 +1,17 @@
+-- `word_products::multiples::add_row` meets its contract: the first j words have had their products added.
+use mathlib.Core.List.{List}
+use Prim.Native.Nat.{ℕ, ◌-◌, ◌≤◌}
+use lib.IntN.{ℤ, pos, ◌*ℤ◌}
+use lib.ListN.{length, get_or}
+use Rattle.matrices.specs.Elements.{modulo, Added}
+use Rattle.word_products.proofs.multiples.add_row.Given as goal
+
+-- x times number j of y
+abbrev pub multiple : ℕ → List ℤ → ℕ → ℤ
+multiple x y j = pos x *ℤ get_or y j (pos 0)
+
+abbrev pub invariant-loop-j : goal.invariant-loop-j
+invariant-loop-j l = (l.j ≤ length l.initial.row) × Added modulo (multiple l.x l.y) 0 l.j l.initial.row l.row
+
+abbrev pub decreases-loop-j : goal.decreases-loop-j
+decreases-loop-j l = length l.initial.row - l.j
