@@ -41,7 +41,7 @@
  * is no call that is not allowed, as long as each pointer is aligned, is not null and has as many elements behind it as
  * its length says (leaves_out one), and no output overlaps anything else that is lent to the same call.
  *
- * The archive is for x86-64 processors of level v2 and the System V calling convention. Nothing is allocated, and nothing
+ * The archive is for any x86-64 processor and the System V calling convention. Nothing is allocated, and nothing
  * is kept between calls: any number of threads may call at once, as long as what one call writes is lent to no other at the
  * time. A call takes no more stack than `enum lova_stack` says.
  */

@@ -59,6 +59,7 @@ pub fn entries_within(x: &[i64], limit: u64) -> bool
 }
 
 // Whether two leaf counts can be joined: none is 0, and the sum, taken where it cannot wrap, is below 2^32.
+#[tactic(auto, using(crate::proofs::Counts::first_none, crate::proofs::Counts::second_none, crate::proofs::Counts::by_sum))]
 pub fn counts_join(leaves1: u32, leaves2: u32) -> bool
     ensures { result ≡ counts_join leaves1 leaves2 }
 {

@@ -7,6 +7,7 @@ ghost use Rattle.numerals.specs.Numerals.{read_signed, unsigned_of, with_minus, 
 use numerals::{ParsedI64, ParsedU64};
 
 // The signed reading of an unsigned numeral.
+#[tactic(auto, using(numerals::proofs::Signs::positive_fits))]
 fn positive(p: ParsedU64) -> ParsedI64
     ensures { result ≡ fit_signed (without_minus (unsigned_of p)) }
 {
@@ -23,6 +24,7 @@ fn positive(p: ParsedU64) -> ParsedI64
 }
 
 // The signed reading of an unsigned numeral after a minus. -1 - (n - 1) is -n and never overflows.
+#[tactic(auto, using(numerals::proofs::Signs::negative_fits, numerals::proofs::Signs::negative_large))]
 fn negative(p: ParsedU64) -> ParsedI64
     ensures { result ≡ fit_signed (with_minus (unsigned_of p)) }
 {

@@ -9,13 +9,13 @@ pub fold_digits_in-requires : goal.fold_digits_in-requires
 fold_digits_in-requires c =
     let one = c in
     let h = one.requires in
-    (h.0, h.2, h.3, h.4, h.5, omega (arith, one.if-t-eq1.true, length-replicate 512 (pos 0)), within-zeros 16 512)
+    (h.0, h.2, h.3, h.4, h.5, omega (arith, length-replicate 512 (pos 0)), within-zeros 16 512)
 
 pub fold_digits_in-requires-then-t-le4 : goal.fold_digits_in-requires-then-t-le4
 fold_digits_in-requires-then-t-le4 c =
     let few = c in
     let h = few.requires in
-    (h.0, h.2, h.3, h.4, h.5, omega (arith, few.if-t-le4.true, length-replicate 2048 (pos 0)), within-zeros 16 2048)
+    (h.0, h.2, h.3, h.4, h.5, omega (arith, length-replicate 2048 (pos 0)), within-zeros 16 2048)
 
 pub fold_digits_in-requires-else-t-le4 : goal.fold_digits_in-requires-else-t-le4
 fold_digits_in-requires-else-t-le4 c =

@@ -14,14 +14,14 @@ pub returns-then-c-x-gt2 : goal.returns-then-c-x-gt2
 returns-then-c-x-gt2 c =
     let l = c in
     let a = l.args in
-    scan-stop (length a.c.now) (bytes a.c.now) l.loop-x.x (omega arith) (lt-leb _ 2 c.if-c-x-gt2.true)
+    scan-stop (length a.c.now) (bytes a.c.now) l.loop-x.x (omega arith) (lt-leb _ 2 (omega arith))
     ∙ all-entries (length a.c.now) a.rows a.cols (bytes a.c.now) l.requires
 
 pub loop-x-preserved : goal.loop-x-preserved
 loop-x-preserved c =
     let l = c in
     let a = l.args in
-    scan-more (length a.c.now) (bytes a.c.now) l.loop-x.x (omega arith) (le-leb _ 2 c.if-c-x-gt2.false) l.loop-x.invariant
+    scan-more (length a.c.now) (bytes a.c.now) l.loop-x.x (omega arith) (le-leb _ 2 (omega arith)) l.loop-x.invariant
 
 pub returns : goal.returns
 returns c =

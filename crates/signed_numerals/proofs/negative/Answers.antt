@@ -10,11 +10,5 @@ returns-then-n-eq0 c = negative-zero _ _ c.in-Number.is c.if-n-eq0.true
 pub overflow_sub-result : goal.overflow_sub-result
 overflow_sub-result c = less-fits (c.in-Number.n - 1) (omega arith)
 
-pub returns-then-k-le9223372036854775807 : goal.returns-then-k-le9223372036854775807
-returns-then-k-le9223372036854775807 c = negative_fits _ _ c.in-Number.is (omega arith) (omega arith)
-
-pub returns-else-k-le9223372036854775807 : goal.returns-else-k-le9223372036854775807
-returns-else-k-le9223372036854775807 c = negative_large _ _ c.in-Number.is (omega arith) (omega arith)
-
 pub returns-in-Bad : goal.returns-in-Bad
 returns-in-Bad c = negative_bad _ c.in-Bad.is

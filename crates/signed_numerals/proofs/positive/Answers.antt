@@ -3,9 +3,6 @@ use native.Mathlib.Omega.{arith}
 use Rattle.numerals.proofs.Signs.{positive_fits, positive_large, positive_bad}
 use Rattle.signed_numerals.proofs.positive.Goals as goal
 
-pub returns-then-n-le9223372036854775807 : goal.returns-then-n-le9223372036854775807
-returns-then-n-le9223372036854775807 c = positive_fits _ _ c.in-Number.is (omega arith)
-
 pub returns-else-n-le9223372036854775807 : goal.returns-else-n-le9223372036854775807
 returns-else-n-le9223372036854775807 c = positive_large _ _ c.in-Number.is (omega arith)
 
