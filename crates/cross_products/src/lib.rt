@@ -86,7 +86,8 @@ fn add_products(x: &[i64], y: &[i64], rows: usize, cols: usize, out: &mut [i64])
 // a + x0 y0 + x1 y1 + x2 y2 + x3 y3, where y0 to y3 stand in column j of the four rows of y.
 fn four_more(a: i64, x0: i64, x1: i64, x2: i64, x3: i64, y: &[i64], cols: usize, j: usize) -> i64
     requires y_len { (length y.now ≡ 4 * cols) × (j < cols) }
-    requires pos_bound { nat_abs a + nat_abs (x0 *ℤ get_or y.now j (pos 0)) + nat_abs (x1 *ℤ get_or y.now (cols + j) (pos 0))
+    requires pos_bound { nat_abs a + nat_abs (x0 *ℤ get_or y.now j (pos 0))
+        + nat_abs (x1 *ℤ get_or y.now (cols + j) (pos 0))
         + nat_abs (x2 *ℤ get_or y.now (2 * cols + j) (pos 0)) + nat_abs (x3 *ℤ get_or y.now (3 * cols + j) (pos 0))
         ≤ 2 ^ 62 }
     ensures { result
