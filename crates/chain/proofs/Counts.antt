@@ -3,7 +3,8 @@ use mathlib.Core.Path.{◌≡◌, refl, ◌∙◌, ap}
 use mathlib.Core.Logic.{◌⊎◌, inl, inr, ⊎_elim}
 use mathlib.Core.Bool.{Bool, true, false, cond}
 use mathlib.Core.List.{List, [], ◌∷◌}
-use mathlib.Core.Option.{Option, some, none, none-ne-some}
+use Rattle.std.specs.Prelude.{Option, Some, None}
+use Rattle.std.proofs.lemmas.Option.{none-some}
 use Prim.Native.Nat.{ℕ, zero, suc, ◌+◌}
 use native.Mathlib.Omega.{arith}
 use native.Mathlib.Nat.{zero-add}
@@ -30,16 +31,16 @@ use Rattle.chain.proofs.Stopping.{chain_stops}
 
 -- a line that is a record begins with its word
 module _ {A : Type 0} (read : List ℕ → Option A) (word v : List ℕ) (n : ℕ) (xs : List A) where
-  first_by : (f : List ℕ) (fs : List (List ℕ)) (c : Bool) → same f word ≡ c → cond c (exactly read n fs) none ≡ some xs → same f v ≡ same word v
+  first_by : (f : List ℕ) (fs : List (List ℕ)) (c : Bool) → same f word ≡ c → cond c (exactly read n fs) None ≡ Some xs → same f v ≡ same word v
   first_by f fs true e h = ap (λ (w : List ℕ). same w v) (same_eq f word e)
-  first_by f fs false e h = absurd (none-ne-some xs h)
+  first_by f fs false e h = absurd (none-some _ h)
 
-  first-of : (fs : List (List ℕ)) → after_word read word n fs ≡ some xs → first_is v fs ≡ same word v
+  first-of : (fs : List (List ℕ)) → after_word read word n fs ≡ Some xs → first_is v fs ≡ same word v
   unfolding after_word first_is
-  first-of [] h = absurd (none-ne-some xs h)
+  first-of [] h = absurd (none-some _ h)
   first-of (f ∷ fs) h = first_by f fs (same f word) refl h
 
-  record_first : (line : List ℕ) → record_of read word n line ≡ some xs → first_is v (fields line) ≡ same word v
+  record_first : (line : List ℕ) → record_of read word n line ≡ Some xs → first_is v (fields line) ≡ same word v
   unfolding record_of
   record_first line h = first-of (fields line) h
 
@@ -71,27 +72,27 @@ module _ (n : Counts) (line : List ℕ) where
 
   counted-param : (o : Option (List ℕ)) → record_of read_u64 param_word 5 line ≡ o → Counted n line (on_param n o)
   unfolding on_param on_setting param_setting param_refusal same
-  counted-param none e = inl (refl, refl)
-  counted-param (some xs) e = counted-setting (from_five xs) (first_of (program_rules (from_five xs))) (counts-none param_word (record_first read_u64 param_word c_word 5 xs line e) refl)
+  counted-param None e = inl (refl, refl)
+  counted-param (Some xs) e = counted-setting (from_five xs) (first_of (program_rules (from_five xs))) (counts-none param_word (record_first read_u64 param_word c_word 5 xs line e) refl)
 
   counted-matrix : (p : Parameters) (k : ℕ) (o : Option (List ℕ)) → record_of read_u64 a_word k line ≡ o → Counted n line (on_matrix n p o)
   unfolding on_matrix is_stopped same
-  counted-matrix p k none e = inl (refl, refl)
-  counted-matrix p k (some A) e = let z : one line ≡ 0 = counts-none a_word (record_first read_u64 a_word c_word k A line e) refl in inr (refl, omega (arith, z))
+  counted-matrix p k None e = inl (refl, refl)
+  counted-matrix p k (Some A) e = let z : one line ≡ 0 = counts-none a_word (record_first read_u64 a_word c_word k A line e) refl in inr (refl, omega (arith, z))
 
   counted-leaf : (p : Parameters) (A : List ℕ) (after : Node → Stage) → ((node : Node) → is_stopped (after node) ≡ false) → (k : ℕ) (o : Option (List ℤ)) → record_of read_i64 leaf_word k line ≡ o
       → Counted n line (on_leaf n p A after o)
   unfolding on_leaf same
-  counted-leaf p A after open' k none e = inl (refl, refl)
-  counted-leaf p A after open' k (some S) e =
+  counted-leaf p A after open' k None e = inl (refl, refl)
+  counted-leaf p A after open' k (Some S) e =
       let made = commit p A S (blank_instance p) in
       counted-either (refuses made.answer) _ _ (inl (refl, refl))
       (let z : one line ≡ 0 = counts-none leaf_word (record_first read_i64 leaf_word c_word k S line e) refl in inr (open' _, omega (arith, z)))
 
   counted-challenge : (p : Parameters) (A : List ℕ) (acc new : Node) (k : ℕ) (o : Option (List ℕ)) → record_of read_ternary c_word k line ≡ o → Counted n line (on_challenge n p A acc new o)
   unfolding on_challenge is_stopped same
-  counted-challenge p A acc new k none e = inl (refl, refl)
-  counted-challenge p A acc new k (some C) e =
+  counted-challenge p A acc new k None e = inl (refl, refl)
+  counted-challenge p A acc new k (Some C) e =
       let made = fold_of p A acc new C in
       counted-either (refuses made.answer) _ _ (inl (refl, refl))
       (let z : one line ≡ 1 = ap (λ (c : Bool). cond c 1 0) (record_first read_ternary c_word c_word k C line e) in inr (refl, omega (arith, z)))

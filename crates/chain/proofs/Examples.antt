@@ -22,8 +22,8 @@ use Rattle.lova.specs.Relation.{relation_rules, products_hold, commitment_holds,
 use Rattle.lova.specs.Message.{message_rules, prepared_as, message_in}
 use Rattle.lova.specs.Verdict.{verdict_rules_as, diagonals_hold, first_holds, second_holds, folded_instance, verdict_by, judged, verdict_as, verdict_in}
 use Rattle.lova.specs.Witness.{witness_rules, folded_witness, witness_in}
-use Rattle.numerals.specs.Numerals.{is_digit, are_digits, is_plain, value_from, natural_from, natural, without_minus, with_minus, integer, fit_unsigned, fit_signed, read_unsigned, read_signed, unsigned_of, signed_of, decimal_in, decimal, decimal_Z}
-use Rattle.text.specs.Fields.{onto, cut_at, same, push, exactly, after_word, record_of, read_u64, read_i64, read_ternary}
+use Rattle.numerals.specs.Numerals.{is_digit, are_digits, is_plain, value_from, natural_from, natural, without_minus, with_minus, integer, fit_unsigned, fit_signed, read_unsigned, read_signed, decimal_in, decimal, decimal_Z}
+use Rattle.text.specs.Fields.{onto, cut_at, same, push, exactly, after_word, record_of, read_ternary}
 use Rattle.text.specs.Lines.{tabbed, joined, line_of}
 use Rattle.chain.specs.Limits.{program_limits, largest, small, program_rules}
 use Rattle.chain.specs.Params.{param_setting, param_refusal}
@@ -91,7 +91,7 @@ abbrev too_many_leaves : Type 0
 too_many_leaves = (take_line (due 4294967295) c-line).output ≡ (114 ∷ 101 ∷ 102 ∷ 117 ∷ 115 ∷ 101 ∷ 100 ∷ 9 ∷ 53 ∷ 9 ∷ 49 ∷ 53 ∷ 10 ∷ [])
 
 pub examples : example × one-leaf × empty × challenge_missing × no_line_feed × growth × growth-first × too_large × too_long × not-due × most-leaves × too_many_leaves
-unfolding build sum sum_ℕ residue table lower mirrored ternary first_of greatest LOf repunit step_of rest_of digit_of unless_refused all every eq_Z short_right diagonal_within are_ternary counts_join beside above digit_witness gadget commit_rules instance_in commit_in relation_rules products_hold commitment_holds member_word relation message_rules prepared_as message_in verdict_rules_as diagonals_hold first_holds second_holds folded_instance verdict_by judged verdict_in verdict_as witness_rules folded_witness witness_in is_digit are_digits is_plain value_from natural_from natural without_minus with_minus integer fit_unsigned fit_signed read_unsigned read_signed unsigned_of signed_of decimal_in decimal decimal_Z onto cut_at same push exactly after_word record_of read_u64 read_i64 read_ternary tabbed joined line_of small refusal refuses unless_refusing fold_answer calls_of fold_of word_of numbers_of leaf_text fold_text end_line refused_line number_of on_setting param_setting param_refusal on_param on_matrix on_leaf on_challenge take_due is_stopped bad_line line_step end_due last_output printed output_of
+unfolding build sum sum_ℕ residue table lower mirrored ternary first_of greatest LOf repunit step_of rest_of digit_of unless_refused all every eq_Z short_right diagonal_within are_ternary counts_join beside above digit_witness gadget commit_rules instance_in commit_in relation_rules products_hold commitment_holds member_word relation message_rules prepared_as message_in verdict_rules_as diagonals_hold first_holds second_holds folded_instance verdict_by judged verdict_in verdict_as witness_rules folded_witness witness_in is_digit are_digits is_plain value_from natural_from natural without_minus with_minus integer fit_unsigned fit_signed read_unsigned read_signed decimal_in decimal decimal_Z onto cut_at same push exactly after_word record_of read_ternary tabbed joined line_of small refusal refuses unless_refusing fold_answer calls_of fold_of word_of numbers_of leaf_text fold_text end_line refused_line number_of on_setting param_setting param_refusal on_param on_matrix on_leaf on_challenge take_due is_stopped bad_line line_step end_due last_output printed output_of
 examples = (refl, refl, refl, refl, refl, refl, refl, refl, refl, refl, refl, refl)
 
 -- the setting with the largest matrices is taken, and its k is the most

@@ -5,6 +5,7 @@ pub mod Numbers
 pub mod Refusing
 pub mod Reached
 pub mod Sizes
+pub mod Small
 pub mod Trees
 pub mod Examples
 pub mod Theorems

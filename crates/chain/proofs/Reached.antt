@@ -4,7 +4,7 @@ use mathlib.Core.Path.{◌≡◌, refl, sym, ◌∙◌, ap, ap₂, subst}
 use mathlib.Core.Logic.{◌⊎◌, inl, inr}
 use mathlib.Core.Bool.{Bool, true, false, not, cond, true≢false}
 use mathlib.Core.List.{List, [], ◌∷◌, ◌++◌, append_assoc, append-nil}
-use mathlib.Core.Option.{Option, some, none}
+use Rattle.std.specs.Prelude.{Option, Some, None}
 use Prim.Native.Nat.{ℕ, zero, suc, ◌+◌, ◌*◌, ◌≤◌, ◌<◌}
 use native.Mathlib.Omega.{arith}
 use lib.Arith.{digits_lt}
@@ -39,7 +39,7 @@ use Rattle.chain.proofs.Refusing.{commit-passes, commit-makes}
 use Rattle.chain.proofs.Trees.{node_leaves, fold_is, fold-beyond, member_is}
 
 -- a record has as many numbers as were asked for
-record_length : {A : Type 0} (read : List ℕ → Option A) (word : List ℕ) (n : ℕ) (line : List ℕ) (xs : List A) → record_of read word n line ≡ some xs → length xs ≡ n
+record_length : {A : Type 0} (read : List ℕ → Option A) (word : List ℕ) (n : ℕ) (line : List ℕ) (xs : List A) → record_of read word n line ≡ Some xs → length xs ≡ n
 record_length read word n line xs e = (record_each read (λ _. Unit {0}) (λ f x h. tt) word n line xs e).0
 
 -- ---- what a run has come to
@@ -49,7 +49,7 @@ record Opened (ls : List (List ℕ)) (p : Parameters) : Type 0 where
   line : List ℕ
   xs : List ℕ
   lines_are : ls ≡ line ∷ []
-  reads-param : record_of read_u64 param_word 5 line ≡ some xs
+  reads-param : record_of read_u64 param_word 5 line ≡ Some xs
   p-is : p ≡ from_five xs
   ok : setting_refusal p ≡ 0
 
@@ -59,7 +59,7 @@ record Keyed (ls : List (List ℕ)) (p : Parameters) (A : List ℕ) : Type 0 whe
   line : List ℕ
   lines_are : ls ≡ before ++ (line ∷ [])
   opened : Opened before p
-  reads-a : record_of read_u64 a_word (matrix_A p).size line ≡ some A
+  reads-a : record_of read_u64 a_word (matrix_A p).size line ≡ Some A
 
 -- leaves and challenges were taken: the lines spell a tree with no more leaves than can be counted, and the accumulated node is its
 -- root
@@ -79,7 +79,7 @@ pub record Waiting (ls : List (List ℕ)) (p : Parameters) (A : List ℕ) (node 
   pub S : List ℤ
   pub lines_are : ls ≡ before ++ (line ∷ [])
   pub grown : Grown before p A node
-  pub reads-leaf : record_of read_i64 leaf_word (matrix_S p).size line ≡ some S
+  pub reads-leaf : record_of read_i64 leaf_word (matrix_S p).size line ≡ Some S
   pub proper : Proper p (leaf S)
   pub new_is : new ≡ tree_node p A (leaf S)
 
@@ -103,10 +103,10 @@ accepted : (p : Parameters) → first_of (program_rules p) ≡ 0 → setting_ref
 accepted p e = program-accepts p (set-ok (setting_rules setting_limits p) ((not (small program_limits p) gives 14) ∷ []) e)
 
 spell_one : (l₁ l₂ l₃ xs A : List ℕ) (S : List ℤ) (p : Parameters) → p ≡ from_five xs
-    → record_of read_u64 param_word 5 l₁ ≡ some xs → record_of read_u64 a_word (matrix_A p).size l₂ ≡ some A → record_of read_i64 leaf_word (matrix_S p).size l₃ ≡ some S
+    → record_of read_u64 param_word 5 l₁ ≡ Some xs → record_of read_u64 a_word (matrix_A p).size l₂ ≡ Some A → record_of read_i64 leaf_word (matrix_S p).size l₃ ≡ Some S
     → Spells (l₁ ∷ l₂ ∷ l₃ ∷ []) p A (leaf S)
 spell_one l₁ l₂ l₃ xs A S p e h₁ =
-    subst (λ (q : Parameters). record_of read_u64 a_word (matrix_A q).size l₂ ≡ some A → record_of read_i64 leaf_word (matrix_S q).size l₃ ≡ some S → Spells (l₁ ∷ l₂ ∷ l₃ ∷ []) q A (leaf S))
+    subst (λ (q : Parameters). record_of read_u64 a_word (matrix_A q).size l₂ ≡ Some A → record_of read_i64 leaf_word (matrix_S q).size l₃ ≡ Some S → Spells (l₁ ∷ l₂ ∷ l₃ ∷ []) q A (leaf S))
     (sym e) (λ h₂ h₃. one l₁ l₂ l₃ xs A S h₁ h₂ h₃)
 
 -- the node of a leaf
@@ -116,14 +116,14 @@ unfolding tree_node seen view_of left_witness blank_held
 leaf_node p A ok size_A S proper = refl
 
 -- a challenge that was read is proper
-fold-proper : (p : Parameters) (t : Tree) (S : List ℤ) (C line : List ℕ) → record_of read_ternary c_word (size_C p) line ≡ some C → Proper p t → Proper p (leaf S) → Proper p (fold t (leaf S) C)
+fold-proper : (p : Parameters) (t : Tree) (S : List ℤ) (C line : List ℕ) → record_of read_ternary c_word (size_C p) line ≡ Some C → Proper p t → Proper p (leaf S) → Proper p (fold t (leaf S) C)
 unfolding Proper
 fold-proper p t S C line h g k =
     let r = ternary-each c_word (size_C p) line C h in
     (g, k, (r.0, λ i j u v. each_at (λ x. x ≤ 2) C 0 r.1 (i * p.t + j) (subst (λ (q : ℕ). i * p.t + j < q) (sym r.0) (digits_lt u v))))
 
 -- the fold of the accumulated node with the new leaf
-module _ (ls : List (List ℕ)) (line : List ℕ) (p : Parameters) (A : List ℕ) (acc new : Node) (r : Waiting ls p A acc new) (C : List ℕ) (h : record_of read_ternary c_word (size_C p) line ≡ some C) where
+module _ (ls : List (List ℕ)) (line : List ℕ) (p : Parameters) (A : List ℕ) (acc new : Node) (r : Waiting ls p A acc new) (C : List ℕ) (h : record_of read_ternary c_word (size_C p) line ≡ Some C) where
   abbrev so_far : Tree
   so_far = r.grown.tree
 
@@ -169,27 +169,27 @@ module _ (ls : List (List ℕ)) (n : Counts) (line : List ℕ) where
 
   at-param : ls ≡ [] → (o : Option (List ℕ)) → record_of read_u64 param_word 5 line ≡ o → Reached more-lines (on_param n o).state.stage
   unfolding on_param on_setting param_setting param_refusal
-  at-param e none h = tt
-  at-param e (some xs) h =
+  at-param e None h = tt
+  at-param e (Some xs) h =
       at-setting (from_five xs) (first_of (program_rules (from_five xs)))
       (λ z. record { line = line; xs = xs; lines_are = rw e refl; reads-param = h; p-is = refl; ok = accepted (from_five xs) z })
 
   at-matrix : (p : Parameters) → Opened ls p → (o : Option (List ℕ)) → record_of read_u64 a_word (matrix_A p).size line ≡ o → Reached more-lines (on_matrix n p o).state.stage
   unfolding on_matrix
-  at-matrix p r none h = tt
-  at-matrix p r (some A) h = record { before = ls; line = line; lines_are = refl; opened = r; reads-a = h }
+  at-matrix p r None h = tt
+  at-matrix p r (Some A) h = record { before = ls; line = line; lines_are = refl; opened = r; reads-a = h }
 
   -- a leaf that is not refused has columns within B
-  leaf-proper : (p : Parameters) (A : List ℕ) (S : List ℤ) → record_of read_i64 leaf_word (matrix_S p).size line ≡ some S → refuses (commit p A S (blank_instance p)).answer ≡ false → Proper p (leaf S)
+  leaf-proper : (p : Parameters) (A : List ℕ) (S : List ℤ) → record_of read_i64 leaf_word (matrix_S p).size line ≡ Some S → refuses (commit p A S (blank_instance p)).answer ≡ false → Proper p (leaf S)
   unfolding Proper
   leaf-proper p A S h e = (record_length read_i64 leaf_word (matrix_S p).size line S h, ((commit-proper p General A S (blank_instance p)).0 (commit-passes p A S (blank_instance p) e)).columns)
 
   at_leaf : (p : Parameters) (A : List ℕ) (after : Node → Stage)
-      → ((S : List ℤ) → record_of read_i64 leaf_word (matrix_S p).size line ≡ some S → Proper p (leaf S) → Reached more-lines (after (record { instance = (commit p A S (blank_instance p)).outputs; witness = S })))
+      → ((S : List ℤ) → record_of read_i64 leaf_word (matrix_S p).size line ≡ Some S → Proper p (leaf S) → Reached more-lines (after (record { instance = (commit p A S (blank_instance p)).outputs; witness = S })))
       → (o : Option (List ℤ)) → record_of read_i64 leaf_word (matrix_S p).size line ≡ o → Reached more-lines (on_leaf n p A after o).state.stage
   unfolding on_leaf
-  at_leaf p A after g none h = tt
-  at_leaf p A after g (some S) h = either more-lines (refuses (commit p A S (blank_instance p)).answer) _ _ tt (λ e. g S h (leaf-proper p A S h e))
+  at_leaf p A after g None h = tt
+  at_leaf p A after g (Some S) h = either more-lines (refuses (commit p A S (blank_instance p)).answer) _ _ tt (λ e. g S h (leaf-proper p A S h e))
 
   one-few : (S : List ℤ) → leaves_of (leaf S) ≤ most_leaves
   unfolding leaves_of
@@ -204,14 +204,14 @@ module _ (ls : List (List ℕ)) (n : Counts) (line : List ℕ) where
       size_A = record_length read_u64 a_word (matrix_A p).size r.line A r.reads-a
 
       -- the three lines spell the leaf
-      spelled : (S : List ℤ) → record_of read_i64 leaf_word (matrix_S p).size line ≡ some S → Spells more-lines p A (leaf S)
+      spelled : (S : List ℤ) → record_of read_i64 leaf_word (matrix_S p).size line ≡ Some S → Spells more-lines p A (leaf S)
       spelled S h =
           let o = r.opened in
           let are : more-lines ≡ o.line ∷ r.line ∷ line ∷ [] = rw (r.lines_are, o.lines_are) refl in
           subst (λ (m : List (List ℕ)). Spells m p A (leaf S)) (sym are)
           (spell_one o.line r.line line o.xs A S p o.p-is o.reads-param r.reads-a h)
 
-      first-grown : (S : List ℤ) → record_of read_i64 leaf_word (matrix_S p).size line ≡ some S → Proper p (leaf S)
+      first-grown : (S : List ℤ) → record_of read_i64 leaf_word (matrix_S p).size line ≡ Some S → Proper p (leaf S)
           → Grown more-lines p A (record { instance = (commit p A S (blank_instance p)).outputs; witness = S })
       first-grown S h proper =
           record { tree = leaf S; spells = spelled S h; ok = r.opened.ok; size_A = size_A; proper = proper; few = one-few S; node_is = leaf_node p A r.opened.ok size_A S proper }
@@ -226,10 +226,10 @@ module _ (ls : List (List ℕ)) (n : Counts) (line : List ℕ) where
   at-challenge : (p : Parameters) (A : List ℕ) (acc new : Node) → Waiting ls p A acc new → (o : Option (List ℕ)) → record_of read_ternary c_word (size_C p) line ≡ o
       → Reached more-lines (on_challenge n p A acc new o).state.stage
   unfolding on_challenge
-  at-challenge p A acc new r none h = tt
-  at-challenge p A acc new r (some C) h = either more-lines (refuses (fold_of p A acc new C).answer) _ _ tt (λ e. folded C h (fold-few ls line p A acc new r C h e))
+  at-challenge p A acc new r None h = tt
+  at-challenge p A acc new r (Some C) h = either more-lines (refuses (fold_of p A acc new C).answer) _ _ tt (λ e. folded C h (fold-few ls line p A acc new r C h e))
     where
-      folded : (C : List ℕ) (h : record_of read_ternary c_word (size_C p) line ≡ some C) → leaves_of (larger ls line p A acc new r C h) ≤ most_leaves → Grown more-lines p A (fold_of p A acc new C).outputs
+      folded : (C : List ℕ) (h : record_of read_ternary c_word (size_C p) line ≡ Some C) → leaves_of (larger ls line p A acc new r C h) ≤ most_leaves → Grown more-lines p A (fold_of p A acc new C).outputs
       folded C h few =
           let g = r.grown in
           let t = g.tree in
@@ -301,13 +301,13 @@ line-fits line h = true-is (leb (length line) longest_line) (le→leb (length li
 -- a leaf that is not refused prints one leaf
 pub leaf-says-one : (s : State) (line : List ℕ) (p : Parameters) (A : List ℕ) (S : List ℤ)
     → (s.stage ≡ first p A) ⊎ ((node : Node) × (s.stage ≡ Chain.leaf p A node))
-    → length line ≤ longest_line → record_of read_i64 leaf_word (matrix_S p).size line ≡ some S → refuses (commit p A S (blank_instance p)).answer ≡ false
+    → length line ≤ longest_line → record_of read_i64 leaf_word (matrix_S p).size line ≡ Some S → refuses (commit p A S (blank_instance p)).answer ≡ false
     → (take_line s line).output ≡ leaf_line p (s.counts.leaves + 1) (counted (instance_of p A S) 1)
 unfolding line_step take_due on_leaf refusal refuses
 leaf-says-one s line p A S (inl e) h k f = rw (line-fits line h, e, k, commit-makes p A S (blank_instance p) f) refl
 leaf-says-one s line p A S (inr e) h k f = rw (line-fits line h, e.1, k, commit-makes p A S (blank_instance p) f) refl
 
-module _ (ls : List (List ℕ)) (line : List ℕ) (p : Parameters) (A : List ℕ) (node new : Node) (C : List ℕ) (e : (state_after start ls).stage ≡ challenge p A node new) (h : length line ≤ longest_line) (k : record_of read_ternary c_word (size_C p) line ≡ some C) where
+module _ (ls : List (List ℕ)) (line : List ℕ) (p : Parameters) (A : List ℕ) (node new : Node) (C : List ℕ) (e : (state_after start ls).stage ≡ challenge p A node new) (h : length line ≤ longest_line) (k : record_of read_ternary c_word (size_C p) line ≡ Some C) where
   abbrev waits : Waiting ls p A node new
   waits = run_waits ls p A node new e
 

@@ -1,9 +1,10 @@
 -- What is kept after an answer: how a leaf and a fold are told from their calls, and what they tell a caller.
 use mathlib.Core.Path.{◌≡◌, refl, sym, ◌∙◌, ap}
-use mathlib.Core.Bool.{Bool, true, false, true≢false}
+use mathlib.Core.Bool.{true, false, true≢false}
 use mathlib.Core.List.{List}
 use Prim.Native.Nat.{ℕ, zero, suc}
 use lib.IntN.{ℤ}
+use Rattle.std.specs.Prelude.{Ok}
 use Rattle.settings.specs.Rules.{first_of}
 use Rattle.settings.specs.Settings.{Parameters}
 use Rattle.lova.specs.declared.Verdict.{Verdict}
@@ -25,14 +26,13 @@ node_same T T' D D' n n' S S' t d l s = rw (t, d, l, s) refl
 pub message-same : («V» V' : List ℤ) (T~ T' : List ℕ) (D~ D' : List ℤ) → «V» ≡ V' → T~ ≡ T' → D~ ≡ D' → ◌≡◌ {A = Message} (record { «V» = «V»; T~ = T~; D~ = D~ }) (record { «V» = V'; T~ = T'; D~ = D' })
 message-same «V» V' T~ T' D~ D' v t d = rw (v, t, d) refl
 
--- a verdict that is no refusal does not refuse
-pub passes_on : (v : Verdict) → ((r : ℕ) → v ≡ Verdicts.Refused r → ⊥) → refuses (verdict_of v) ≡ false
+-- a verdict does not refuse
+pub passes_on : (v : Verdict) → refuses (verdict_of (Ok v)) ≡ false
 unfolding refusal refuses verdict_of
-passes_on (Verdicts.Yes leaves) h = refl
-passes_on Verdicts.Long h = refl
-passes_on Verdicts.Norm h = refl
-passes_on Verdicts.Commitment h = refl
-passes_on (Verdicts.Refused r) h = absurd (h r refl)
+passes_on (Verdicts.Yes leaves) = refl
+passes_on Verdicts.Long = refl
+passes_on Verdicts.Norm = refl
+passes_on Verdicts.Commitment = refl
 
 -- the leaf count after an answer: the answer's, and with a refusal the one that was there
 module _ (a : Meaning) (leaves before : ℕ) where
@@ -51,24 +51,6 @@ module _ (a : Meaning) (before after : Node) where
   pub kept-before : refuses a ≡ true → unless_refusing a before after ≡ ends a before
   unfolding unless_refusing
   kept-before e = rw e refl
-
-  kept-answer : (unless_refusing a before after).answer ≡ a
-  kept-answer = go (refuses a) refl
-    where
-      go : (u : Bool) → refuses a ≡ u → (unless_refusing a before after).answer ≡ a
-      go true e = ap (λ (o : Outcome Node). o.answer) (kept-before e)
-      go false e = ap (λ (o : Outcome Node). o.answer) (kept-after e)
-
-  -- where that is how a call ended
-  module _ (v : Meaning) (z : Node) (e : ends v z ≡ unless_refusing a before after) where
-    answer_told : a ≡ v
-    answer_told = sym (ap (λ (o : Outcome Node). o.answer) e ∙ kept-answer)
-
-    after_told : refuses v ≡ false → z ≡ after
-    after_told f = ap (λ (o : Outcome Node). o.outputs) (e ∙ kept-after (ap refuses answer_told ∙ f))
-
-    before_told : refuses v ≡ true → z ≡ before
-    before_told f = ap (λ (o : Outcome Node). o.outputs) (e ∙ kept-before (ap refuses answer_told ∙ f))
 
 -- ---- a leaf
 
@@ -106,30 +88,6 @@ module _ (p : Parameters) (A : List ℕ) (S : List ℤ) (before : Node) where
     unfolding leaf_of leaf-by
     leaf-refuses f = sym (kept-before v before (record { instance = J; witness = S }) f) ∙ ap leaf-by e
 
-  -- from the leaf's end: commit's answer; where it does not refuse, the node is what commit left, and S; else it is as it was
-  module _ (v : Meaning) (z : Node) (e : ends v z ≡ leaf_of p A S before) where
-    told_leaf : ends v z ≡ leaf-by (commit p A S (blank_instance p))
-    unfolding leaf_of leaf-by
-    told_leaf = e
-
-    pub leaf-answer : (commit p A S (blank_instance p)).answer ≡ v
-    unfolding leaf-by
-    leaf-answer = answer_told _ before _ v z told_leaf
-
-    pub leaf-made : refuses v ≡ false → z ≡ record { instance = (commit p A S (blank_instance p)).outputs; witness = S }
-    unfolding leaf-by
-    leaf-made = after_told _ before _ v z told_leaf
-
-    -- and one leaf is under it
-    pub leaf-one : refuses v ≡ false → z.instance.leaves ≡ 1
-    leaf-one f =
-        ap (λ (y : Node). y.instance.leaves) (leaf-made f)
-        ∙ ap (λ (o : Outcome Counted). o.outputs.leaves) (commit-makes p A S (blank_instance p) (ap refuses leaf-answer ∙ f))
-
-    pub leaf-kept : refuses v ≡ true → z ≡ before
-    unfolding leaf-by
-    leaf-kept = before_told _ before _ v z told_leaf
-
 -- ---- a fold
 
 module _ (p : Parameters) (A : List ℕ) (left right : Node) (C : List ℕ) where
@@ -156,21 +114,3 @@ module _ (p : Parameters) (A : List ℕ) (left right : Node) (C : List ℕ) wher
     pub fold-refuses : refuses v ≡ true → ends v left ≡ fold_of p A left right C
     unfolding fold_of fold-by
     fold-refuses f = sym (kept-before v left z f) ∙ ap fold-by e
-
-  -- from the fold's end: the calls' answer; where it does not refuse, the node is what the calls left; else it is the left one
-  module _ (v : Meaning) (z : Node) (e : ends v z ≡ fold_of p A left right C) where
-    told_fold : ends v z ≡ fold-by (calls_of p A left right C (blank_node p))
-    unfolding fold_of fold-by
-    told_fold = e
-
-    pub fold-said : (calls_of p A left right C (blank_node p)).answer ≡ v
-    unfolding fold-by
-    fold-said = answer_told _ left _ v z told_fold
-
-    pub fold-made : refuses v ≡ false → z ≡ (calls_of p A left right C (blank_node p)).outputs
-    unfolding fold-by
-    fold-made = after_told _ left _ v z told_fold
-
-    pub fold-kept : refuses v ≡ true → z ≡ left
-    unfolding fold-by
-    fold-kept = before_told _ left _ v z told_fold

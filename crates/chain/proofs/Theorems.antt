@@ -1,11 +1,11 @@
 -- What is proved of the chain program's definition, in one place. The code's contracts are equations with the same definitions:
--- `runs::take` with `take_line`, and in `driver` the end of the input with `at_end` and `feed_end`, `readings::read` with `feed_all`
+-- `runs::take` with `take_line`, and in `driver` the end of the input with `at_end` and `feed_end`, `Feed::take` with `feed_all`
 -- and `feed_output`.
 use mathlib.Core.Path.{◌≡◌}
 use mathlib.Core.Logic.{◌⊎◌}
 use mathlib.Core.Bool.{false}
 use mathlib.Core.List.{List, []}
-use mathlib.Core.Option.{some}
+use Rattle.std.specs.Prelude.{Some}
 use Prim.Native.Nat.{ℕ, ◌+◌, ◌≤◌, ◌<◌}
 use lib.IntN.{ℤ}
 use lib.ListN.{length}
@@ -56,12 +56,12 @@ tree-counted = Reached.tree-counted
 -- in every run state, a `leaf` line that is due and not refused prints its instance with one leaf
 pub leaf-says-one : (s : State) (line : List ℕ) (p : Parameters) (A : List ℕ) (S : List ℤ)
     → (s.stage ≡ first p A) ⊎ ((node : Node) × (s.stage ≡ Chain.leaf p A node))
-    → length line ≤ longest_line → record_of read_i64 leaf_word (matrix_S p).size line ≡ some S → refuses (commit p A S (blank_instance p)).answer ≡ false
+    → length line ≤ longest_line → record_of read_i64 leaf_word (matrix_S p).size line ≡ Some S → refuses (commit p A S (blank_instance p)).answer ≡ false
     → (take_line s line).output ≡ leaf_line p (s.counts.leaves + 1) (counted (instance_of p A S) 1)
 leaf-says-one = Reached.leaf-says-one
 
 -- a `c` line that is due
-module _ (ls : List (List ℕ)) (line : List ℕ) (p : Parameters) (A : List ℕ) (node new : Node) (C : List ℕ) (e : (state_after start ls).stage ≡ challenge p A node new) (h : length line ≤ longest_line) (k : record_of read_ternary c_word (size_C p) line ≡ some C) where
+module _ (ls : List (List ℕ)) (line : List ℕ) (p : Parameters) (A : List ℕ) (node new : Node) (C : List ℕ) (e : (state_after start ls).stage ≡ challenge p A node new) (h : length line ≤ longest_line) (k : record_of read_ternary c_word (size_C p) line ≡ Some C) where
   -- the tree so far, and with the fold of the leaf that waits
   abbrev so_far : Tree
   so_far = (Reached.run_waits ls p A node new e).grown.tree

@@ -1,6 +1,6 @@
 -- Document 01, "The chain program": what a run does with each line.
 use Rattle.std.specs.Prelude.{Bool, true, false, cond, List, [], ◌∷◌, ℕ, zero, suc, ◌+◌, ℤ}
-use Rattle.std.proofs.Math.Option.{Option, some, none}
+use Rattle.std.specs.Prelude.{Option, Some, None}
 use Rattle.settings.specs.Settings.{Parameters}
 use Rattle.text.specs.Fields.{record_of, read_u64, read_i64, read_ternary}
 use Rattle.line_machines.specs.Machines.{Machine, line_step, last_output}
@@ -71,7 +71,7 @@ refuse n number = step (tally (n.line + 1) n.leaves n.folds) stopped (refused_li
 
 -- a refusal's number; 0 for every other answer
 unfoldable pub number_of : Meaning → ℕ
-number_of answer = elim (refusal answer) [ none ↦ 0 | some r ↦ r ]
+number_of answer = elim (refusal answer) [ None ↦ 0 | Some r ↦ r ]
 
 -- a setting whose first refusal has this number (0: none applies)
 unfoldable pub on_setting : Counts → Parameters → ℕ → Step
@@ -84,13 +84,13 @@ on_param n o = on_setting n (param_setting o) (param_refusal o)
 
 -- `a` with n×m entries: 13
 unfoldable pub on_matrix : Counts → Parameters → Option (List ℕ) → Step
-on_matrix n p none = refuse n 13
-on_matrix n p (some A) = next n (first p A)
+on_matrix n p None = refuse n 13
+on_matrix n p (Some A) = next n (first p A)
 
 -- `leaf` with m×t entries: 13, then 8; what is due after it depends on its node
 unfoldable pub on_leaf : Counts → Parameters → List ℕ → (Node → Stage) → Option (List ℤ) → Step
-on_leaf n p A after none = refuse n 13
-on_leaf n p A after (some S) =
+on_leaf n p A after None = refuse n 13
+on_leaf n p A after (Some S) =
     let made = commit p A S (blank_instance p) in
     let taken = step (tally (n.line + 1) (n.leaves + 1) n.folds) (after (record { instance = made.outputs; witness = S }))
     (leaf_line p (n.leaves + 1) made.outputs) in
@@ -98,8 +98,8 @@ on_leaf n p A after (some S) =
 
 -- `c` with N×t entries of −1, 0 or 1: 13, then 15; the accumulated node is first and the new leaf second
 unfoldable pub on_challenge : Counts → Parameters → List ℕ → Node → Node → Option (List ℕ) → Step
-on_challenge n p A accumulated new none = refuse n 13
-on_challenge n p A accumulated new (some C) =
+on_challenge n p A accumulated new None = refuse n 13
+on_challenge n p A accumulated new (Some C) =
     let made = fold_of p A accumulated new C in
     let taken = step (tally (n.line + 1) n.leaves (n.folds + 1)) (leaf p A made.outputs)
     (fold_line p (n.folds + 1) made.answer made.outputs.instance) in

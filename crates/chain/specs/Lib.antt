@@ -1,4 +1,5 @@
 pub mod Limits
+pub mod Small
 pub mod Params
 pub mod Nodes
 pub mod Reports

@@ -23,13 +23,6 @@ node_of T D leaves S = record { instance = counted (record { T = T; D = D }) lea
 abbrev pub FitsNode : Parameters → Node → Type 0
 FitsNode p z = Fits (matrix_T p) z.instance.instance.T × Fits (matrix_D p) z.instance.instance.D × Fits (matrix_S p) z.witness
 
--- the node that three lent slices hold, at entry and at exit, with this leaf count
-abbrev pub node_before : List ℕ → List ℤ → ℕ → List ℤ → Node
-node_before t d leaves s = node_of t d leaves s
-
-abbrev pub node_after : List ℕ → List ℤ → ℕ → List ℤ → Node
-node_after t d leaves s = node_of t d leaves s
-
 -- outputs of the stated lengths that hold zeros, as every call of a chain finds them; a chain has general calls alone
 abbrev pub blank_right : Parameters → Profile → Instance
 blank_right p f = record { T = replicate (right_T p f).size 0; D = replicate (right_D p f).size (pos 0) }

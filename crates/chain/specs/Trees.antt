@@ -1,6 +1,6 @@
 -- The tree of a chain: left-leaning, the accumulated tree first and the new leaf second.
 use Rattle.std.specs.Prelude.{◌≡◌, List, [], ◌∷◌, ◌++◌, ℕ, ℤ, pos, replicate}
-use Rattle.std.proofs.Math.Option.{some}
+use Rattle.std.specs.Prelude.{Some}
 use Rattle.settings.specs.Settings.{Parameters}
 use Rattle.text.specs.Fields.{record_of, read_u64, read_i64, read_ternary}
 use Rattle.lova.specs.declared.Profile.{Profile}
@@ -33,12 +33,12 @@ tree_node p A t = record { instance = seen p (view_of p A t (blank_held p t)); w
 -- lines that spell a setting, an A and the tree of the leaves and challenges read so far
 pub data Spells : List (List ℕ) → Parameters → List ℕ → Tree → Type 0 where
   one : (l₁ l₂ l₃ xs A : List ℕ) (S : List ℤ)
-      → record_of read_u64 param_word 5 l₁ ≡ some xs
-      → record_of read_u64 a_word (matrix_A (from_five xs)).size l₂ ≡ some A
-      → record_of read_i64 leaf_word (matrix_S (from_five xs)).size l₃ ≡ some S
+      → record_of read_u64 param_word 5 l₁ ≡ Some xs
+      → record_of read_u64 a_word (matrix_A (from_five xs)).size l₂ ≡ Some A
+      → record_of read_i64 leaf_word (matrix_S (from_five xs)).size l₃ ≡ Some S
       → Spells (l₁ ∷ l₂ ∷ l₃ ∷ []) (from_five xs) A (leaf S)
   more : (ls : List (List ℕ)) (p : Parameters) (A : List ℕ) (t : Tree) (l₁ l₂ : List ℕ) (S : List ℤ) (C : List ℕ)
       → Spells ls p A t
-      → record_of read_i64 leaf_word (matrix_S p).size l₁ ≡ some S
-      → record_of read_ternary c_word (size_C p) l₂ ≡ some C
+      → record_of read_i64 leaf_word (matrix_S p).size l₁ ≡ Some S
+      → record_of read_ternary c_word (size_C p) l₂ ≡ Some C
       → Spells (ls ++ (l₁ ∷ l₂ ∷ [])) p A (fold t (leaf S) C)

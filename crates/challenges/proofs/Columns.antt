@@ -8,7 +8,7 @@ use borrow.Author.Count.{below_more}
 use lib.ListN.{length, get_or, take, drop}
 use lib.IntN.{ℤ, pos, nat_abs}
 use Rattle.integers.specs.Lists.{build}
-use Rattle.integers.proofs.Lists.{length-build, get_or-build, part-long, part_in, part-before, part-after}
+use Rattle.integers.proofs.Lists.{length-build, get_or-build, part_in, part-before, part-after}
 use Rattle.integers.proofs.Tests.{le_or_lt}
 use Rattle.matrices.specs.Matrices.{Matrix, Agree}
 use Rattle.small_rows.specs.Small.{Within}
@@ -47,10 +47,10 @@ module _ (rows j : ℕ) (C : Matrix) (q ys : List ℤ) (few : rows ≤ 512) (roo
       (λ (l : x < j * 512). rw (part-before (j * 512) rows q ys (pos 0) fits size x l) (small x))
       (le_or_lt (j * 512) x)
 
-  -- all of it, of the list as it comes back
+  -- both, of the list as it comes back
   pub column-more : ((k : ℕ) → nat_abs (C k j) ≤ 16) → Agree rows j (by_columns q) C → Within 16 q →
       let back = take (j * 512) q ++ (ys ++ drop (j * 512 + rows - j * 512) (drop (j * 512) q)) in
-      (length back ≡ length q) × Agree rows (j + 1) (by_columns back) C × Within 16 back
+      Agree rows (j + 1) (by_columns back) C × Within 16 back
   column-more sums agree small =
       let width : j * 512 + rows - j * 512 ≡ rows = omega arith in
-      rw width (part-long (j * 512) rows q ys (pos 0) fits size, more agree, still_small sums small)
+      rw width (more agree, still_small sums small)

@@ -2,7 +2,7 @@
 // folds of T~, D~ and S~ multiply by, and a row of signed words times such a matrix.
 #![tactic(auto)]
 
-ghost use Rattle.std.specs.Prelude.{◌≡◌, ◌+◌, ◌*◌, ◌^◌, ◌<◌, ◌≤◌, length};
+ghost use Rattle.std.specs.Prelude.{◌≡◌, ℕ, ◌+◌, ◌*◌, ◌^◌, ◌<◌, ◌≤◌, length};
 ghost use Rattle.integers.specs.Lists.{build};
 ghost use Rattle.matrices.specs.Elements.{exactly, Added};
 ghost use Rattle.matrices.specs.Matrices.{contracted, Agree};
@@ -15,25 +15,20 @@ ghost use Rattle.challenges.specs.Rows.{row_times};
 fn number(v: u8) -> i16
     ensures { result ≡ ternary v }
 {
-    if v == 0 {
-        return 0;
+    match v {
+        0 => 0,
+        1 => 1,
+        _ => -1,
     }
-    if v == 1 {
-        return 1;
-    }
-    -1
 }
 
 // Writes the first `rows` numbers of column j of the challenge c, which has t columns.
-fn decode_column(c: &[u8], rows: usize, t: usize, j: usize, column: &mut [i16])
+fn read_column(c: &[u8], rows: usize, t: usize, j: usize, column: &mut [i16])
     requires { (rows * t ≤ length c.now) × (j < t) × (length column.old ≡ rows) }
     ensures { column.new ≡ build rows (λ k. challenge t c.now k j) }
 {
-    let mut k: usize = 0;
-    while k < rows {
-        let x = number(c[k * t + j]);
-        column[k] = x;
-        k += 1;
+    for (k, x) in column.iter_mut().enumerate() {
+        *x = number(c[k * t + j]);
     }
 }
 
@@ -44,53 +39,76 @@ fn add_rows(c: &[u8], from: usize, further: usize, t: usize, j: usize, column: &
     ensures { Added exactly (λ k. challenge t c.now (k + further) j)
         from (length column.old) column.old column.new }
 {
-    let mut k = from;
-    while k < column.len() {
-        let x = number(c[(k + further) * t + j]);
-        let sum = column[k] + x;
-        column[k] = sum;
-        k += 1;
+    for k in from..column.len() {
+        column[k] += number(c[(k + further) * t + j]);
     }
 }
 
-// Writes column j of the challenge c: `left` numbers, and then `block` sums of the numbers that stand in the same place
-// of each copy. One copy alone is written and nothing is added.
-fn decode_sums(
-    c: &[u8],
-    left: usize,
-    block: usize,
-    copies: usize,
-    t: usize,
-    j: usize,
-    column: &mut [i16],
-)
-    requires { (length c.now ≡ (left + copies * block) * t) × (1 ≤ copies) × (copies ≤ 16) × (j < t)
-        × (length column.old ≡ left + block) }
-    ensures { column.new
-        ≡ build (left + block) (λ k. contracted left block copies (challenge t c.now) k j) }
-{
-    decode_column(c, left + block, t, j, column);
-    let mut a: usize = 1;
-    while a < copies {
-        add_rows(c, left, a * block, t, j, column);
-        a += 1;
-    }
+// A challenge of `columns` columns, by rows: its first `left` rows, and then `copies` blocks of `block` rows. What it
+// folds has one column for the rows in the same place of each block, and those rows are added up.
+#[derive(Clone, Copy)]
+pub struct Challenge<'a> {
+    pub bytes: &'a [u8],
+    pub left: usize,
+    pub block: usize,
+    pub copies: usize,
+    pub columns: usize,
+    pub ghost whole: { length bytes.now ≡ (left + copies * block) * columns },
+    pub ghost some: { 1 ≤ copies },
+    pub ghost few: { copies ≤ 16 },
 }
 
-// Puts the challenge c, of t columns, into q by columns of 512 places: its first `left` rows, and then the sum of the
-// blocks of `block` rows that follow. What it leaves of q must be as small as the sums of 16 copies.
-pub fn decode(c: &[u8], left: usize, block: usize, copies: usize, t: usize, q: &mut [i16])
-    requires { (length c.now ≡ (left + copies * block) * t) × (1 ≤ copies) × (copies ≤ 16)
-        × (left + block ≤ 512) × (t * 512 ≤ length q.old) × Within 16 q.old }
-    ensures { Agree (left + block) t (by_columns q.new)
-        (contracted left block copies (challenge t c.now)) × Within 16 q.new }
-{
-    let mut j: usize = 0;
-    while j < t {
-        let start = j * 512;
-        let end = start + (left + block);
-        decode_sums(c, left, block, copies, t, j, &mut q[start..end]);
-        j += 1;
+impl<'a> Challenge<'a> {
+    ghost use Rattle.challenges.specs.Challenges.{folded, rows_of};
+
+    // The challenge whose rows all stand first, so that none is added to another.
+    pub fn plain(bytes: &'a [u8], rows: usize, columns: usize) -> Challenge<'a>
+        requires { length bytes.now ≡ rows * columns }
+        ensures rows { rows_of result ≡ rows }
+        ensures columns { result.columns ≡ columns }
+        ensures entries { (i j : ℕ) → folded result i j ≡ challenge columns bytes.now i j }
+    {
+        Challenge {
+            bytes,
+            left: rows,
+            block: 0,
+            copies: 1,
+            columns,
+        }
+    }
+
+    // Writes column j: `left` numbers, and then `block` sums of the numbers that stand in the same place of each copy.
+    // One copy alone is written and nothing is added.
+    fn decode_column(self, j: usize, column: &mut [i16])
+        requires { (j < self.columns) × (length column.old ≡ rows_of self) }
+        ensures { column.new ≡ build (rows_of self.entry) (λ k. folded self.entry k j) }
+    {
+        read_column(self.bytes, self.left + self.block, self.columns, j, column);
+        for a in 1..self.copies {
+            add_rows(
+                self.bytes,
+                self.left,
+                a * self.block,
+                self.columns,
+                j,
+                column,
+            );
+        }
+    }
+
+    // Puts the challenge into q by columns of 512 places: its first `left` rows, and then the sum of the blocks that
+    // follow. What it leaves of q must be as small as the sums of 16 copies.
+    // q is a slice and no type: it is an array that is filled in part, and `product_t` is lent it by C.
+    pub fn decode(self, q: &mut [i16])
+        requires { (rows_of self ≤ 512) × (self.columns * 512 ≤ length q.old) × Within 16 q.old }
+        ensures { Agree (rows_of self.entry) self.entry.columns (by_columns q.new)
+            (folded self.entry) × Within 16 q.new }
+    {
+        for j in 0..self.columns {
+            let start = j * 512;
+            let end = start + (self.left + self.block);
+            self.decode_column(j, &mut q[start..end]);
+        }
     }
 }
 
@@ -101,11 +119,9 @@ fn fold_entry(e: &[i64], q: &[i16], j: usize) -> i64
     ensures { result ≡ row_times e.now (by_columns q.now) j }
 {
     let mut a: i64 = 0;
-    let mut k: usize = 0;
-    while k < e.len() {
+    for (k, x) in e.iter().enumerate() {
         let v = q[j * 512 + k];
-        a = matrices::add_product(a, e[k], v as i64);
-        k += 1;
+        a = matrices::add_product(a, *x, v as i64);
     }
     a
 }
@@ -116,10 +132,7 @@ pub fn fold_row(e: &[i64], q: &[i16], t: usize, out: &mut [i64])
         × (t * 512 ≤ length q.now) × (length out.old ≡ t) }
     ensures { out.new ≡ build t (row_times e.now (by_columns q.now)) }
 {
-    let mut j: usize = 0;
-    while j < t {
-        let x = fold_entry(e, q, j);
-        out[j] = x;
-        j += 1;
+    for (j, x) in out.iter_mut().enumerate() {
+        *x = fold_entry(e, q, j);
     }
 }

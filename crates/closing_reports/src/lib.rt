@@ -6,6 +6,7 @@ ghost use Rattle.std.specs.Prelude.{◌≡◌, ◌≤◌, length, take};
 ghost use Rattle.chain.specs.Reports.{refused_line};
 
 // Writes the line of a refusal, with the number of the input line and the refusal's, and answers its length.
+// Any number, as before: a `Refusal` would ask more of callers.
 pub fn put_refused(out: &mut [u8], line: u64, number: u8) -> usize
     requires { 64 ≤ length out.old }
     ensures { (result ≤ length out.new) × (take result out.new ≡ refused_line line number) }

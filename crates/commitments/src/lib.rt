@@ -2,61 +2,62 @@
 #![tactic(auto)]
 
 ghost use Rattle.std.specs.Prelude.{◌≡◌, ◌&&◌};
+ghost use Rattle.settings.specs.Accepted.{parameters_in};
+ghost use Rattle.settings.specs.Refusals.{number_in};
 ghost use Rattle.settings.specs.Rules.{first_of};
 ghost use Rattle.settings.specs.Settings.{parameters_of};
-ghost use Rattle.lova.specs.Answers.{ends, made_of, made_leaves};
+ghost use Rattle.lova.specs.Answers.{ends, answer_of, made_leaves};
 ghost use Rattle.lova.specs.Stored.{counted, matrix_A, right_S};
-ghost use Rattle.lova.specs.Lent.{instance_before, instance_after};
+ghost use Rattle.lova.specs.Lent.{as_instance};
 ghost use Rattle.lova.specs.Tests.{fits, fits_right};
-ghost use Rattle.lova.specs.Calls.{Rebuilt};
 ghost use Rattle.lova.specs.Commit.{commit_rules, commit_in};
 
-use lova::{Made, Profile};
-use settings::Setting;
+use lova::Profile;
+use settings::{AcceptedSetting, Refusal, Setting};
 
 // Whether the slices have the lengths of their matrices.
-fn commit_lengths(
-    setting: Setting,
+fn lengths_fit(
+    accepted: &AcceptedSetting,
     profile: Profile,
     a: &[u64],
     s: &[i64],
     t: &[u64],
     d: &[i64],
 ) -> bool
-    requires { Rebuilt setting }
     ensures { result
-        ≡ (fits (matrix_A (parameters_of setting)) a.now
-        && fits (right_S (parameters_of setting) profile) s.now
-        && fits_right (parameters_of setting) profile (instance_before t.now d.now)) }
+        ≡ (fits (matrix_A (parameters_in accepted.now)) a.now
+        && fits (right_S (parameters_in accepted.now) profile) s.now
+        && fits_right (parameters_in accepted.now) profile (as_instance t.now d.now)) }
 {
+    let setting = &accepted.setting;
     let right = profile.right(setting.t);
     a.len() == setting.n * setting.m
         && s.len() == setting.m * right
-        && scans::instance_fits(setting, profile, t, d)
+        && scans::instance_fits(accepted, profile, t, d)
 }
 
-// The first of 7 and 8 that applies, or 0.
-fn commit_refusal(
-    setting: Setting,
+// The first refusal that applies of those for lengths and for a long column, if any.
+fn test_commit(
+    accepted: &AcceptedSetting,
     profile: Profile,
     a: &[u64],
     s: &[i64],
     t: &[u64],
     d: &[i64],
-) -> u8
-    requires { Rebuilt setting }
-    ensures { result
-        ≡ first_of (commit_rules (parameters_of setting) profile a.now s.now
-        (instance_before t.now d.now)) }
+) -> Result<(), Refusal>
+    ensures { number_in result
+        ≡ first_of (commit_rules (parameters_in accepted.now) profile a.now s.now
+        (as_instance t.now d.now)) }
 {
-    if !commit_lengths(setting, profile, a, s, t, d) {
-        return 7;
+    if !lengths_fit(accepted, profile, a, s, t, d) {
+        return Err(Refusal::Lengths);
     }
+    let setting = &accepted.setting;
     let right = profile.right(setting.t);
     if !scans::columns_within(s, setting.m, right, setting.bound) {
-        return 8;
+        return Err(Refusal::LongColumn);
     }
-    0
+    Ok(())
 }
 
 // Writes t = a s modulo 2^64 and d = s-transposed s; a fresh s is one column. One leaf is under the instance.
@@ -67,22 +68,20 @@ pub fn commit(
     s: &[i64],
     t: &mut [u64],
     d: &mut [i64],
-) -> Made
-    ensures { ends (made_of result) (counted (instance_after t.new d.new) (made_leaves result))
-        ≡ commit_in (parameters_of setting) profile a.now s.now (instance_before t.old d.old) }
+) -> Result<u32, Refusal>
+    ensures { ends (answer_of result) (counted (as_instance t.new d.new) (made_leaves result))
+        ≡ commit_in (parameters_of setting) profile a.now s.now (as_instance t.old d.old) }
 {
-    let checked = setting.rebuilt();
-    let number = checked.refusal;
-    if number != 0 {
-        return Made::Refused(number);
-    }
-    let accepted = checked.setting;
-    let own = commit_refusal(accepted, profile, a, s, t, d);
-    if own != 0 {
-        return Made::Refused(own);
-    }
-    let right = profile.right(accepted.t);
-    word_products::commitment(a, s, accepted.n, accepted.m, right, t);
-    cross_products::cross_products(s, s, accepted.m, right, right, d);
-    Made::Done(1)
+    let accepted = setting.accepted()?;
+    test_commit(&accepted, profile, a, s, t, d)?;
+    let Setting {
+        n,
+        m,
+        t: columns,
+        ..
+    } = accepted.setting;
+    let right = profile.right(columns);
+    word_products::commitment(a, s, n, m, right, t);
+    cross_products::cross_products(s, s, m, right, right, d);
+    Ok(1)
 }

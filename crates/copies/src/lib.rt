@@ -3,26 +3,13 @@
 
 ghost use Rattle.std.specs.Prelude.{◌≡◌, length};
 
-// Copies words.
-pub fn copy_words(from: &[u64], to: &mut [u64])
+// Copies the elements of one slice into another of its length. A loop: rows are short, and for each of them
+// `copy_from_slice` calls memmove, with which a join of narrow matrices took a third longer.
+pub fn copy<T: Copy>(from: &[T], to: &mut [T])
     requires { length from.now ≡ length to.old }
     ensures { to.new ≡ from.now }
 {
-    let mut i: usize = 0;
-    while i < to.len() {
-        to[i] = from[i];
-        i += 1;
-    }
-}
-
-// Copies signed words.
-pub fn copy_wholes(from: &[i64], to: &mut [i64])
-    requires { length from.now ≡ length to.old }
-    ensures { to.new ≡ from.now }
-{
-    let mut k: usize = 0;
-    while k < to.len() {
-        to[k] = from[k];
-        k += 1;
+    for (i, place) in to.iter_mut().enumerate() {
+        *place = from[i];
     }
 }

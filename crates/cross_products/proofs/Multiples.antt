@@ -1,7 +1,7 @@
 -- A multiple of a row, written into a row from its first number up, or added to one from its last down: one product.
 use mathlib.Core.Path.{◌≡◌, refl, sym, ◌∙◌, ap}
 use mathlib.Core.List.{List}
-use Prim.Native.Nat.{ℕ, ◌+◌, ◌^◌, ◌<◌, ◌≤◌}
+use Prim.Native.Nat.{ℕ, ◌+◌, ◌-◌, ◌^◌, ◌<◌, ◌≤◌}
 use native.Mathlib.Omega.{arith}
 use lib.IntN.{ℤ, pos, nat_abs, ◌+ℤ◌, ◌*ℤ◌, +ℤ_idl}
 use lib.ListN.{length, get_or, set}
@@ -12,6 +12,7 @@ use Rattle.integers.specs.Lists.{build}
 use Rattle.integers.proofs.Words.{read_back}
 use Rattle.integers.proofs.Lists.{Filled, filled_more, filled-all, build_cong}
 use Rattle.matrices.specs.Elements.{exactly, Added}
+use Rattle.matrices.proofs.Elements.{added-two-down}
 use Rattle.matrices.proofs.Turns.{room, read-added}
 use Rattle.cross_products.specs.Rows.{RowRoom}
 
@@ -58,3 +59,11 @@ module _ (x : ℤ) (y before row : List ℤ) (j : ℕ) (fx : SFits w64 x) (w : A
     gives fb e fr =
         let b = get_or row i (pos 0) in
         read-added b x (get_or y i (pos 0)) (to_z-of_z w64 b fb) fx fy e fr ∙ ap (λ (z : ℤ). b +ℤ z *ℤ get_or y i (pos 0)) (sym (to_z-of_z w64 x fx))
+
+-- a pair of numbers more at the start, from place p on
+pub pair_down : (f : ℕ → ℤ) (p to : ℕ) (before after : List ℤ) (u v : ℤ) → Added exactly f (p + 2) to before after → p + 2 ≤ length after
+    → u ≡ get_or after (p + 1) (pos 0) +ℤ f (p + 1) → v ≡ get_or after p (pos 0) +ℤ f p → Added exactly f p to before (set (set after (p + 1) u) p v)
+pair_down f p to before after u v w room first second =
+    let one : p + 2 - 1 ≡ p + 1 = omega arith in
+    let two : p + 2 - 2 ≡ p = omega arith in
+    rw (one, two) at (added-two-down exactly f (p + 2) to before after u v w (omega arith) room (rw one first) (rw two second))

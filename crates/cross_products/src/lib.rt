@@ -1,5 +1,6 @@
 // The products of two witnesses' columns, exactly: V is S1 transposed times S2, and D is S transposed times S, which is
 // written as a square or as its lower triangle.
+// Rows are cut by ranges: `chunks_exact` asks for a width above 0, which `cross_products` does not ask of callers.
 #![tactic(auto)]
 
 ghost use Rattle.std.specs.Prelude.{◌≡◌, ℕ, ◌+◌, ◌*◌, ◌^◌, ◌≤◌, ◌<◌, pos, nat_abs, ◌+ℤ◌, ◌*ℤ◌, length, get_or};
@@ -10,7 +11,9 @@ ghost use Rattle.matrices.specs.Triangles.{triangular, lower, mirrored, mirrored
 ghost use Rattle.cross_products.specs.Rows.{outer, Small, Room, RowRoom};
 
 // Writes x times y into `row`, two numbers a turn: of a loop with one the compiler would make vectors, which have no
-// 64-bit multiply.
+// 64-bit multiply. By an index: an odd last number would need a tail of its own after `chunks_exact(2)` all the same.
+// Not one with those of `word_products`: an exact sum asks for room, which a trait would carry into each contract
+// there; and the row that is added goes the other way there.
 fn write_multiple(x: i64, y: &[i64], row: &mut [i64])
     requires y_len { length y.now ≡ length row.old }
     requires small { Small (length row.old) (λ j. x *ℤ get_or y.now j (pos 0)) }
@@ -18,51 +21,51 @@ fn write_multiple(x: i64, y: &[i64], row: &mut [i64])
         ≡ build (length row.old) (λ j. x *ℤ get_or y.now j (pos 0)) }
 {
     let n = row.len();
-    let mut j: usize = 0;
-    while j + 1 < n {
+    for pair in 0..n / 2 {
+        let j = 2 * pair;
         row[j] = matrices::add_product(0, x, y[j]);
         row[j + 1] = matrices::add_product(0, x, y[j + 1]);
-        j += 2;
     }
-    if j < n {
-        row[j] = matrices::add_product(0, x, y[j]);
+    if n % 2 == 1 {
+        row[n - 1] = matrices::add_product(0, x, y[n - 1]);
     }
 }
 
 // Writes the product of each number of the row x with each of the row y into `out`, row by row.
+// Not one function with `add_products` that is lent the step on a row: what the two steps ask and leave differs, so
+// that the step's contract would say more than both loops.
 fn write_products(x: &[i64], y: &[i64], rows: usize, cols: usize, out: &mut [i64])
     requires x_len { (length x.now ≡ rows) × (length y.now ≡ cols) × (length out.old ≡ rows * cols) }
     requires by_index { (i : ℕ) → i < rows → Small cols (outer x.now y.now i) }
     ensures { out.new
         ≡ table rows cols (outer x.now y.now) }
 {
-    let mut i: usize = 0;
-    while i < rows {
+    for (i, number) in x.iter().enumerate() {
         let start = i * cols;
         let end = start + cols;
-        write_multiple(x[i], y, &mut out[start..end]);
-        i += 1;
+        write_multiple(*number, y, &mut out[start..end]);
     }
 }
 
-// Adds x times y to `row`, from the last number down, two a turn: both are read along memory, and x stays in a
-// register. Of a loop with one the compiler would make vectors, which have no 64-bit multiply.
+// Adds x times y to `row`, from the last number down, two a turn (a last one that has no other comes first): both are
+// read along memory, and x stays in a register. Of a loop with one the compiler would make vectors, which have no
+// 64-bit multiply. By an index, as in `write_multiple`.
 fn add_multiple(x: i64, y: &[i64], row: &mut [i64])
     requires y_len { length y.now ≡ length row.old }
     requires row_room { RowRoom (length row.old) row.old (λ j. nat_abs (x *ℤ get_or y.now j (pos 0))) }
     ensures { (j : ℕ) → j < length row.old → get_or row.new j (pos 0)
         ≡ get_or row.old j (pos 0) +ℤ x *ℤ get_or y.now j (pos 0) }
 {
-    let mut j = row.len();
-    while 1 < j {
-        let high = matrices::add_product(row[j - 1], x, y[j - 1]);
-        let low = matrices::add_product(row[j - 2], x, y[j - 2]);
-        row[j - 1] = high;
-        row[j - 2] = low;
-        j -= 2;
+    let n = row.len();
+    if n % 2 == 1 {
+        row[n - 1] = matrices::add_product(row[n - 1], x, y[n - 1]);
     }
-    if 0 < j {
-        row[0] = matrices::add_product(row[0], x, y[0]);
+    for pair in (0..n / 2).rev() {
+        let j = 2 * pair;
+        let high = matrices::add_product(row[j + 1], x, y[j + 1]);
+        let low = matrices::add_product(row[j], x, y[j]);
+        row[j + 1] = high;
+        row[j] = low;
     }
 }
 
@@ -74,16 +77,15 @@ fn add_products(x: &[i64], y: &[i64], rows: usize, cols: usize, out: &mut [i64])
     ensures { Agree rows cols (signed cols out.new)
         (λ i j. signed cols out.old i j +ℤ outer x.now y.now i j) }
 {
-    let mut i: usize = 0;
-    while i < rows {
+    for (i, number) in x.iter().enumerate() {
         let start = i * cols;
         let end = start + cols;
-        add_multiple(x[i], y, &mut out[start..end]);
-        i += 1;
+        add_multiple(*number, y, &mut out[start..end]);
     }
 }
 
 // a + x0 y0 + x1 y1 + x2 y2 + x3 y3, where y0 to y3 stand in column j of the four rows of y.
+// Four factors by name: contract and body name each of them beside its own row of y, as they would an array's places.
 fn four_more(a: i64, x0: i64, x1: i64, x2: i64, x3: i64, y: &[i64], cols: usize, j: usize) -> i64
     requires y_len { (length y.now ≡ 4 * cols) × (j < cols) }
     requires pos_bound { nat_abs a + nat_abs (x0 *ℤ get_or y.now j (pos 0))
@@ -115,9 +117,7 @@ fn add_four_multiples(x: &[i64], y: &[i64], rows: usize, cols: usize, i: usize, 
     let x1 = x[rows + i];
     let x2 = x[2 * rows + i];
     let x3 = x[3 * rows + i];
-    let mut j = cols;
-    while 0 < j {
-        j -= 1;
+    for j in (0..cols).rev() {
         row[j] = four_more(row[j], x0, x1, x2, x3, y, cols, j);
     }
 }
@@ -131,13 +131,44 @@ fn add_four_products(x: &[i64], y: &[i64], rows: usize, cols: usize, out: &mut [
     ensures { Agree rows cols (signed cols out.new) (λ i j. signed cols out.old i j
         +ℤ product 4 (transposed (signed rows x.now)) (signed cols y.now) i j) }
 {
-    let mut i: usize = 0;
-    while i < rows {
+    for i in 0..rows {
         let start = i * cols;
         let end = start + cols;
         add_four_multiples(x, y, rows, cols, i, &mut out[start..end]);
-        i += 1;
     }
+}
+
+// Adds to `out`, the product of the first rows of x and y, that of those which follow, four rows a pass while four are
+// left, and answers how many rows it then is the product of. A loop that chose between four rows and one in every pass
+// would be slower.
+fn add_fours(
+    x: &[i64],
+    y: &[i64],
+    m: usize,
+    rows: usize,
+    cols: usize,
+    first: usize,
+    out: &mut [i64],
+) -> usize
+    requires x_len { (length x.now ≡ m * rows) × (length y.now ≡ m * cols)
+        × (length out.old ≡ rows * cols) × (first ≤ m) }
+    requires by_index { (i j : ℕ) → i < rows → j < cols
+        → sizes m (transposed (signed rows x.now)) (signed cols y.now) i j ≤ 2 ^ 62 }
+    requires summed { Agree rows cols (signed cols out.old)
+        (product first (transposed (signed rows x.now)) (signed cols y.now)) }
+    ensures { (result ≤ m) × Agree rows cols (signed cols out.new)
+        (product result (transposed (signed rows x.now)) (signed cols y.now)) }
+{
+    let fours = (m - first) / 4;
+    for four in 0..fours {
+        let k = first + 4 * four;
+        let from = k * rows;
+        let to = from + 4 * rows;
+        let begin = k * cols;
+        let end = begin + 4 * cols;
+        add_four_products(&x[from..to], &y[begin..end], rows, cols, out);
+    }
+    first + 4 * fours
 }
 
 // x transposed times y, exactly, as V is S1 transposed times S2: both have m rows, x has `rows` columns and y has
@@ -152,43 +183,35 @@ pub fn cross_products(x: &[i64], y: &[i64], m: usize, rows: usize, cols: usize, 
     ensures { out.new
         ≡ table rows cols (product m (transposed (signed rows x.now)) (signed cols y.now)) }
 {
-    let mut k: usize = 0;
-    if m % 4 == 0 {
+    let first = if m % 4 == 0 {
         small_rows::clear(out);
+        0
     } else {
         write_products(&x[..rows], &y[..cols], rows, cols, out);
-        k = 1;
-    }
-    while k < m {
+        1
+    };
+    let taken = add_fours(x, y, m, rows, cols, first, out);
+    for k in taken..m {
         let from = k * rows;
+        let to = from + rows;
         let start = k * cols;
-        if m - k >= 4 {
-            let to = from + 4 * rows;
-            let end = start + 4 * cols;
-            add_four_products(&x[from..to], &y[start..end], rows, cols, out);
-            k += 4;
-        } else {
-            let to = from + rows;
-            let end = start + cols;
-            add_products(&x[from..to], &y[start..end], rows, cols, out);
-            k += 1;
-        }
+        let end = start + cols;
+        add_products(&x[from..to], &y[start..end], rows, cols, out);
     }
 }
 
 // Writes the product of each number of the row y with each of those up to it into the triangle `out`, row by row.
+// Not one with `add_lower`: their steps on a row differ as those of `write_products` and `add_products` do.
 fn write_lower(y: &[i64], n: usize, out: &mut [i64])
     requires y_len { (length y.now ≡ n) × (length out.old ≡ triangular n) }
     requires by_index { (i : ℕ) → i < n → Small n (outer y.now y.now i) }
     ensures { out.new ≡ lower n (outer y.now y.now) }
 {
     let mut start: usize = 0;
-    let mut i: usize = 0;
-    while i < n {
+    for (i, number) in y.iter().enumerate() {
         let end = start + i + 1;
-        write_multiple(y[i], &y[..i + 1], &mut out[start..end]);
+        write_multiple(*number, &y[..i + 1], &mut out[start..end]);
         start = end;
-        i += 1;
     }
 }
 
@@ -200,12 +223,10 @@ fn add_lower(y: &[i64], n: usize, out: &mut [i64])
         ≡ lower n (mirrored_plus out.old (outer y.now y.now)) }
 {
     let mut start: usize = 0;
-    let mut i: usize = 0;
-    while i < n {
+    for (i, number) in y.iter().enumerate() {
         let end = start + i + 1;
-        add_multiple(y[i], &y[..i + 1], &mut out[start..end]);
+        add_multiple(*number, &y[..i + 1], &mut out[start..end]);
         start = end;
-        i += 1;
     }
 }
 
@@ -219,11 +240,9 @@ pub fn lower_products(s: &[i64], m: usize, cols: usize, out: &mut [i64])
     ensures { out.new ≡ lower cols (gram m (signed cols s.now)) }
 {
     write_lower(&s[..cols], cols, out);
-    let mut k: usize = 1;
-    while k < m {
+    for k in 1..m {
         let from = k * cols;
         let to = from + cols;
         add_lower(&s[from..to], cols, out);
-        k += 1;
     }
 }

@@ -1,39 +1,34 @@
 -- Rows taken one after the other: what is left for each column, and what the tests of the rows say of the whole.
-use mathlib.Core.Path.{◌≡◌, refl, sym, ◌∙◌, ap, ap₂, subst}
-use mathlib.Core.Bool.{Bool, true, false, not, ◌&&◌}
+use mathlib.Core.Path.{◌≡◌, refl, sym, ◌∙◌, ap, subst}
+use mathlib.Core.Bool.{true, false, ◌&&◌}
 use mathlib.Core.Logic.{⊎_elim}
 use mathlib.Core.List.{List, ◌++◌}
-use Prim.Native.Nat.{ℕ, ◌+◌, ◌*◌, ◌-◌, ◌^◌, ◌<◌, ◌≤◌}
+use Prim.Native.Nat.{ℕ, ◌+◌, ◌*◌, ◌^◌, ◌<◌, ◌≤◌}
 use native.Mathlib.Omega.{arith}
 use native.Mathlib.Nat.{mul-le-mul}
+use Rattle.std.specs.Prelude.{Some, None}
 use lib.Dec.{T, not_T, leb}
 use lib.IntN.{ℤ, nat_abs}
-use lib.ListN.{length, get_or, take, drop, length-append, length-drop, get_or-append}
+use lib.ListN.{length, get_or, take, get_or-append}
 use lib.Seq.{get_or-take}
-use borrow.Author.Tests.{lt-leb}
-use Rattle.integers.specs.Lists.{build}
-use Rattle.integers.proofs.Lists.{length-build, get_or-build}
-use Rattle.integers.proofs.Tests.{true-is, false-is, le_or_lt, all_true, all_elim, all-fails, all_cong, all_none, all_more}
+use Rattle.integers.proofs.Tests.{true-is, false-is, le_or_lt, all_true, all_elim, all_cong, all_none, all_more}
 use Rattle.integers.specs.Tests.{all}
-use Rattle.matrices.specs.declared.Left.{Left}
 use Rattle.matrices.specs.Lengths.{less_square}
 use Rattle.matrices.specs.Matrices.{squared_length}
-use Rattle.matrices.proofs.Lengths.{LeftAfter, none-taken, one-taken, too_long, all-taken}
+use Rattle.matrices.proofs.Lengths.{LeftAfter, square_above, none-taken, one-taken, too_long, all-taken}
 use Rattle.matrices.proofs.Tables.{row_within}
 use Rattle.lova.specs.Tests.{every}
-use Rattle.lova.proofs.Numbers.{true-T}
 use Rattle.digit_entries.specs.Entries.{entry_of, limit, clamped, follow_rule}
 use Rattle.digit_entries.proofs.Clamped.{clamped-within, clamped-reaches}
 use Rattle.digit_rows.specs.Rows.{digits_at, taken, place, entry_at, short_columns, ruled_entries}
 use Rattle.digit_rows.proofs.Blocks.{part-of-part}
 
--- a square of at least limit² is above what is left of a word, and leaves nothing
-far : (left : ℕ) (z : ℤ) → left < 2 ^ 64 → limit ≤ nat_abs z → less_square left z ≡ record { within = false; rest = 0 }
+-- a square of at least limit² is above what is left of a word
+far : (left : ℕ) (z : ℤ) → left < 2 ^ 64 → limit ≤ nat_abs z → less_square left z ≡ None
 far left z h l =
     let w = nat_abs z in
     let above : left < w * w = omega (arith, mul-le-mul {n₁ = 4294967296} {m₁ = 4294967296} {n₂ = w} {m₂ = w} l l) in
-    let none : left - w * w ≡ 0 = omega arith in
-    ap₂ {C = Left} (λ (c : Bool) (n : ℕ). record { within = c; rest = n }) (lt-leb (w * w) left above) none
+    sym (square_above left w z refl above)
 
 -- so an entry that was given up is taken as the entry itself is
 clamped-taken : (left : ℕ) (z : ℤ) → left < 2 ^ 64 → less_square left (clamped limit z) ≡ less_square left z
@@ -43,12 +38,6 @@ clamped-taken left z h = ⊎_elim
     far left (clamped limit z) h (omega arith) ∙ sym (far left z h l))
     (λ (l : nat_abs z < limit). ap (less_square left) (clamped-within limit z (omega arith)))
     (le_or_lt limit (nat_abs z))
-
--- a part that was lent has come back with its length
-pub put-back-long : (ys zs left : List ℕ) (wide : ℕ) → ys ≡ zs → length zs ≡ wide → wide ≤ length left → length (ys ++ drop wide left) ≡ length left
-put-back-long ys zs left wide same e h =
-    let long : length ys ≡ wide = ap length same ∙ e in
-    simp (length-append, length-drop) (omega arith)
 
 -- what is left for the columns after i rows
 module _ (b k wide : ℕ) (S~ : List ℤ) (m bound : ℕ) where
@@ -87,25 +76,19 @@ module _ (b k wide : ℕ) (S~ : List ℤ) (m bound : ℕ) where
     row_ruled = ap (λ (n : ℕ). all n (λ j. follow_rule b (digits_at k row (j * k)))) size ∙ all_cong wide _ _ (λ j h. ap (follow_rule b) (row-digits j h))
 
     -- each square was within what was left
-    row-taken : (next : List ℕ) → ((j : ℕ) → j < wide → get_or next j 0 ≡ (taken b k row left j).rest) → all (length left) (λ j. (taken b k row left j).within) ≡ true → LeftFor (i + 1) next
-    row-taken next e is j h =
-        let fits : (taken b k row left j).within ≡ true = true-is _ (all_elim (length left) (λ j. (taken b k row left j).within) (true-T _ is) j (omega arith)) in
-        rw (e j h) (one-taken m (squares j) bound i (get_or left j 0) (entry_at b k wide S~ i j) (taken b k row left j) (so_far j h) refl (taken-entry j h) (ap not fits))
+    row-taken : (next : List ℕ) → ((j : ℕ) → j < wide → taken b k row left j ≡ Some (get_or next j 0)) → LeftFor (i + 1) next
+    row-taken next e j h =
+        one-taken m (squares j) bound i (get_or left j 0) (entry_at b k wide S~ i j) (taken b k row left j) (so_far j h) refl (taken-entry j h) (get_or next j 0) (e j h)
 
     -- or one was above it, and then its column is too long
-    pub row-above : all (length left) (λ j. (taken b k row left j).within) ≡ false → short_columns b k wide S~ m bound ≡ false
-    row-above is =
-        let r = all-fails (length left) (λ j. (taken b k row left j).within) (true-T _ (ap not is)) in
-        let j = r.0 in
-        let h : j < wide = omega (arith, r.1) in
-        let above = too_long m (squares j) bound i (get_or left j 0) (entry_at b k wide S~ i j) (taken b k row left j) (so_far j h) refl (taken-entry j h) hi (true-is _ r.2) in
+    pub row-above : (j : ℕ) → j < wide → taken b k row left j ≡ None → short_columns b k wide S~ m bound ≡ false
+    row-above j h is =
+        let above = too_long m (squares j) bound i (get_or left j 0) (entry_at b k wide S~ i j) (taken b k row left j) (so_far j h) refl (taken-entry j h) hi is in
         false-is (short_columns b k wide S~ m bound) (not_T (short_columns b k wide S~ m bound) (λ t. subst T (sym above) (all_elim wide (λ j. leb (squared_length m (entry_at b k wide S~) j) bound) t j h)))
 
     -- the part that was lent, with what is left now, and what is behind it
-    pub part-taken : (ys rest : List ℕ) → ys ≡ build (length left) (λ j. (taken b k row left j).rest) → all (length left) (λ j. (taken b k row left j).within) ≡ true → LeftFor (i + 1) (ys ++ rest)
-    part-taken ys rest e is = row-taken (ys ++ rest) (λ j h.
-        get_or-append ys rest 0 j (rw (e, length-build (length left) (λ j. (taken b k row left j).rest), size) h)
-        ∙ ap (λ (xs : List ℕ). get_or xs j 0) e ∙ get_or-build (length left) _ j 0 (rw size h)) is
+    pub part-taken : (ys rest : List ℕ) → length ys ≡ wide → ((j : ℕ) → j < wide → taken b k row left j ≡ Some (get_or ys j 0)) → LeftFor (i + 1) (ys ++ rest)
+    part-taken ys rest long e = row-taken (ys ++ rest) (λ j h. e j h ∙ ap Some (sym (get_or-append ys rest 0 j (omega (arith, long)))))
 
   -- the rows' digits, one row more
   pub ruled_none : true ≡ ruled_entries b k wide S~ 0

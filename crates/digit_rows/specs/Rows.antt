@@ -1,13 +1,11 @@
 -- The matrix that a digit witness stands for, read from its digits: k of them for each entry.
-use Rattle.std.specs.Prelude.{Bool, not, List, [], ◌∷◌, ℕ, ◌+◌, ◌*◌, leb, ℤ, length, get_or, take, drop}
+use Rattle.std.specs.Prelude.{Bool, not, List, [], ◌∷◌, ℕ, ◌+◌, ◌*◌, leb, ℤ, get_or, take, drop, Option}
 use Rattle.integers.specs.Tests.{all}
 use Rattle.matrices.specs.Matrices.{Matrix, squared_length}
-use Rattle.matrices.specs.declared.Left.{Left}
 use Rattle.matrices.specs.Lengths.{less_square}
 use Rattle.settings.specs.Rules.{Rule, ◌gives◌}
 use Rattle.lova.specs.Tests.{every}
 use Rattle.digit_entries.specs.Entries.{entry_of, limit, clamped, follow_rule}
-use Rattle.digit_rows.specs.declared.Row.{Row}
 
 -- the k digits from place x on
 abbrev pub digits_at : ℕ → List ℤ → ℕ → List ℤ
@@ -17,17 +15,9 @@ digits_at k S~ x = take k (drop x S~)
 abbrev pub read_at : ℕ → ℕ → List ℤ → ℕ → ℤ
 read_at b k S~ x = clamped limit (entry_of b (digits_at k S~ x))
 
--- a row of `length left` entries: its squares taken from what is left for each column
-module _ (b k : ℕ) (row : List ℤ) (left : List ℕ) where
-  abbrev pub taken : ℕ → Left
-  taken j = less_square (get_or left j 0) (read_at b k row (j * k))
-
-  -- whether each was within what was left, and whether the digits are those that the rule gives
-  abbrev pub row_test : Row
-  row_test = record {
-    within = all (length left) (λ j. (taken j).within);
-    ruled = all (length left) (λ j. follow_rule b (digits_at k row (j * k)));
-  }
+-- what the square of entry j of a row leaves of what is left for its column, if it is within that
+abbrev pub taken : ℕ → ℕ → List ℤ → List ℕ → ℕ → Option ℕ
+taken b k row left j = less_square (get_or left j 0) (read_at b k row (j * k))
 
 -- where the digits of entry (i, j) start, with `wide` entries to a row
 abbrev pub place : ℕ → ℕ → ℕ → ℕ → ℕ

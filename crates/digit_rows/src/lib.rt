@@ -1,115 +1,108 @@
-// The matrix that a digit witness ss stands for, in passes over its rows: k digits to an entry, `wide` entries to a
-// row. No entry is kept, so that each pass works them out anew.
+// The matrix that a digit witness stands for, in passes over its rows. No entry is kept, so that each pass works them
+// out anew.
 #![tactic(auto)]
 
-ghost use Rattle.std.specs.Prelude.{◌≡◌, ◌+◌, ◌*◌, ◌^◌, ◌<◌, ◌≤◌, length};
+ghost use Rattle.std.specs.Prelude.{◌≡◌, ◌+◌, ◌*◌, ◌^◌, ◌<◌, ◌≤◌, length, get_or, ℕ, Some, None, MatchOption};
 ghost use Rattle.integers.specs.Lists.{build};
+ghost use Rattle.integers.specs.Tests.{all};
 ghost use Rattle.matrices.specs.Tables.{table};
+ghost use Rattle.settings.specs.Refusals.{number_in};
 ghost use Rattle.settings.specs.Rules.{first_of};
-ghost use Rattle.digit_entries.specs.Entries.{Digits};
-ghost use Rattle.digit_rows.specs.Rows.{read_at, taken, row_test, place, rows_rules};
+ghost use Rattle.digit_entries.specs.Entries.{Digits, follow_rule};
+ghost use Rattle.digit_rows.specs.Rows.{digits_at, read_at, taken, place, rows_rules};
 
-// Of a row: whether the squares of its entries were within what was left for their columns, and whether their digits
-// are those that the rule gives.
+use settings::Refusal;
+
+// A digit witness as its rows are read: k digits to base b to an entry, `wide` entries to a row.
 #[derive(Clone, Copy)]
-pub struct Row {
-    pub within: bool,
-    pub ruled: bool,
+pub struct DigitRows<'a> {
+    pub digits: &'a [i64],
+    pub m: usize,
+    pub wide: usize,
+    pub k: usize,
+    pub b: u64,
+    pub ghost sized: { (length digits.now ≡ m * (wide * k)) × (wide * k ≤ 512) },
+    pub ghost based: { (2 ≤ b) × (b < 2 ^ 16) × Digits b digits.now },
 }
 
-// The most entries of a row.
+// The most entries of a row that is tested.
 const WIDEST: usize = 32;
 
-// Takes the squares of a row's entries from what is left for their columns, and tests its digits.
-fn take_row(row: &[i64], k: usize, b: u64, left: &mut [u64]) -> Row
+// Takes the squares of a row's entries from what is left for their columns, and says whether its digits are those that
+// the rule gives. None where a square is above what is left.
+fn take_row(row: &[i64], k: usize, b: u64, left: &mut [u64]) -> Option<bool>
     requires row_len { length row.now ≡ length left.old * k }
     requires le_b { (2 ≤ b) × (b < 2 ^ 16) × Digits b row.now }
-    ensures { (result ≡ row_test b k row.now left.old)
-        × (left.new
-        ≡ build (length left.old) (λ j. (taken b k row.now left.old j).rest)) }
+    ensures { MatchOption result
+        ((j : ℕ) × (j < length left.old) × (taken b k row.now left.old j ≡ None))
+        (λ ruled. ((j : ℕ) → j < length left.old → taken b k row.now left.old j ≡ Some (get_or left.new j 0))
+        × (ruled ≡ all (length left.old) (λ j. follow_rule b (digits_at k row.now (j * k))))) }
 {
-    let mut within = true;
     let mut ruled = true;
-    let mut j: usize = 0;
-    while j < left.len() {
+    for (j, rest) in left.iter_mut().enumerate() {
         let start = j * k;
         let end = start + k;
         let digits = &row[start..end];
         let x = digit_entries::entry(digits, b);
-        let next = matrices::take_square(left[j], x);
-        left[j] = next.rest;
-        within = scans::both(within, next.within);
+        *rest = matrices::take_square(*rest, x)?;
         ruled = scans::both(ruled, digit_entries::follow_rule(digits, b, x));
-        j += 1;
     }
-    Row {
-        within: within,
-        ruled: ruled,
-    }
+    Some(ruled)
 }
 
-// 8 where a column has a squared length above `bound`, else 16 where digits are other than the rule's, else 0.
-pub fn rows_refusal(ss: &[i64], m: usize, wide: usize, k: usize, b: u64, bound: u64) -> u8
-    requires ss_len { (length ss.now ≡ m * (wide * k)) × (wide ≤ 32) × (wide * k ≤ 512) }
-    requires le_b { (2 ≤ b) × (b < 2 ^ 16) × Digits b ss.now }
-    ensures { result ≡ first_of (rows_rules b k wide ss.now m bound) }
-{
-    let columns = wide * k;
-    let mut left = [bound; WIDEST];
-    let mut ruled = true;
-    let mut i: usize = 0;
-    while i < m {
-        let start = i * columns;
-        let end = start + columns;
-        let row = take_row(&ss[start..end], k, b, &mut left[..wide]);
-        if !row.within {
-            return 8;
+impl<'a> DigitRows<'a> {
+    // Refuses a column with a squared length above `bound`, and then digits that are other than the rule's.
+    pub fn test(&self, bound: u64) -> Result<(), Refusal>
+        requires { self.now.wide ≤ 32 }
+        ensures { number_in result
+            ≡ first_of (rows_rules self.now.b self.now.k self.now.wide self.now.digits.now self.now.m bound) }
+    {
+        let columns = self.wide * self.k;
+        let mut left = [bound; WIDEST];
+        let mut ruled = true;
+        // By an index: `chunks_exact` asks for rows that are not empty, and here they may be.
+        for i in 0..self.m {
+            let start = i * columns;
+            let end = start + columns;
+            let row = &self.digits[start..end];
+            let Some(follow) = take_row(row, self.k, self.b, &mut left[..self.wide]) else {
+                return Err(Refusal::LongColumn);
+            };
+            ruled = scans::both(ruled, follow);
         }
-        ruled = scans::both(ruled, row.ruled);
-        i += 1;
+        if ruled {
+            Ok(())
+        } else {
+            Err(Refusal::OtherDigits)
+        }
     }
-    if ruled { 0 } else { 16 }
-}
 
-// Writes the entries whose digits follow each other from `start` on, as many as `row` holds.
-fn write_row(ss: &[i64], start: usize, k: usize, b: u64, row: &mut [i64])
-    requires k_in_bounds { start + length row.old * k ≤ length ss.now }
-    requires le_b { (2 ≤ b) × (b < 2 ^ 16) × Digits b ss.now }
-    ensures { row.new
-        ≡ build (length row.old) (λ j. read_at b k ss.now (start + j * k)) }
-{
-    let mut j: usize = 0;
-    while j < row.len() {
-        let first = start + j * k;
-        let end = first + k;
-        row[j] = digit_entries::entry(&ss[first..end], b);
-        j += 1;
+    // Writes the entries whose digits follow each other from `start` on, as many as `row` holds.
+    fn write_row(&self, start: usize, row: &mut [i64])
+        requires { start + length row.old * self.now.k ≤ length self.now.digits.now }
+        ensures { row.new
+            ≡ build (length row.old) (λ j. read_at self.now.b self.now.k self.now.digits.now (start + j * self.now.k)) }
+    {
+        for (j, entry) in row.iter_mut().enumerate() {
+            let first = start + j * self.k;
+            let end = first + self.k;
+            *entry = digit_entries::entry(&self.digits[first..end], self.b);
+        }
     }
-}
 
-// Writes `cols` columns, from column `from` on, row by row.
-pub fn write_columns(
-    ss: &[i64],
-    m: usize,
-    wide: usize,
-    k: usize,
-    b: u64,
-    from: usize,
-    cols: usize,
-    out: &mut [i64],
-)
-    requires ss_len { (length ss.now ≡ m * (wide * k)) × (length out.old ≡ m * cols)
-        × (from + cols ≤ wide) × (wide * k ≤ 512) }
-    requires le_b { (2 ≤ b) × (b < 2 ^ 16) × Digits b ss.now }
-    ensures { out.new
-        ≡ table m cols (λ i j. read_at b k ss.now (place k wide i (from + j))) }
-{
-    let columns = wide * k;
-    let mut i: usize = 0;
-    while i < m {
-        let first = i * cols;
-        let end = first + cols;
-        write_row(ss, i * columns + from * k, k, b, &mut out[first..end]);
-        i += 1;
+    // Writes `cols` columns, from column `from` on, row by row.
+    pub fn write_columns(&self, from: usize, cols: usize, out: &mut [i64])
+        requires { (length out.old ≡ self.now.m * cols) × (from + cols ≤ self.now.wide) }
+        ensures { out.new
+            ≡ table self.now.m cols (λ i j. read_at self.now.b self.now.k self.now.digits.now
+            (place self.now.k self.now.wide i (from + j))) }
+    {
+        let columns = self.wide * self.k;
+        // By an index: a proof knows nothing of what was written into the rows that `chunks_exact_mut` lends.
+        for i in 0..self.m {
+            let first = i * cols;
+            let end = first + cols;
+            self.write_row(i * columns + from * self.k, &mut out[first..end]);
+        }
     }
 }

@@ -3,14 +3,14 @@
 
 ghost use Rattle.std.specs.Prelude.{◌≡◌, ◌++◌, ◌+◌, ◌*◌, ◌≤◌, length};
 ghost use Rattle.matrices.specs.Tables.{table, signed};
-ghost use Rattle.settings.specs.Settings.{parameters_of, k_of};
+ghost use Rattle.settings.specs.Settings.{k_of};
+ghost use Rattle.settings.specs.Accepted.{parameters_in};
 ghost use Rattle.digits.specs.Bases.{IsBase, AllInReach};
 ghost use Rattle.digits.specs.Digits.{row_digits};
-ghost use Rattle.lova.specs.Calls.{Rebuilt};
 ghost use Rattle.lova.specs.Fold.{beside, digit_witness};
 
 use digits::Base;
-use settings::Setting;
+use settings::AcceptedSetting;
 
 // Writes one row of a digit witness: the digits of s1's row, and then those of s2's.
 fn write_both(left: &[i64], right: &[i64], base: Base, k: usize, row: &mut [i64])
@@ -24,21 +24,31 @@ fn write_both(left: &[i64], right: &[i64], base: Base, k: usize, row: &mut [i64]
 }
 
 // Writes the digit witness of [s1 s2], row by row: s1 has t columns, and s2 has `right`.
-pub fn write_witness(setting: Setting, right: usize, s1: &[i64], s2: &[i64], out: &mut [i64])
-    requires rebuilt { Rebuilt setting × (right ≤ setting.t) }
-    requires s1_len { (length s1.now ≡ setting.m * setting.t) × (length s2.now ≡ setting.m * right)
-        × (length out.old ≡ setting.m * ((setting.t + right) * k_of (parameters_of setting))) }
-    requires all_in_reach { AllInReach setting.b s1.now × AllInReach setting.b s2.now }
+pub fn write_witness(
+    accepted: &AcceptedSetting,
+    right: usize,
+    s1: &[i64],
+    s2: &[i64],
+    out: &mut [i64],
+)
+    requires right_le { right ≤ accepted.now.setting.t }
+    requires s1_len { (length s1.now ≡ accepted.now.setting.m * accepted.now.setting.t)
+        × (length s2.now ≡ accepted.now.setting.m * right)
+        × (length out.old
+        ≡ accepted.now.setting.m * ((accepted.now.setting.t + right) * k_of (parameters_in accepted.now))) }
+    requires all_in_reach { AllInReach accepted.now.setting.b s1.now × AllInReach accepted.now.setting.b s2.now }
     ensures { out.new
-        ≡ table setting.m ((setting.t + right) * k_of (parameters_of setting)) (digit_witness (parameters_of setting)
-        (beside setting.t (signed setting.t s1.now) (signed right s2.now))) }
+        ≡ table accepted.now.setting.m ((accepted.now.setting.t + right) * k_of (parameters_in accepted.now))
+        (digit_witness (parameters_in accepted.now)
+        (beside accepted.now.setting.t (signed accepted.now.setting.t s1.now) (signed right s2.now))) }
 {
+    let setting = &accepted.setting;
     let m = setting.m;
     let left = setting.t;
     let wide = (left + right) * setting.k;
     let base = Base::new(setting.b);
-    let mut i: usize = 0;
-    while i < m {
+    // By an index: a proof knows nothing of what was written into the rows that `chunks_exact_mut` lends.
+    for i in 0..m {
         let left_start = i * left;
         let left_end = left_start + left;
         let right_start = i * right;
@@ -52,6 +62,5 @@ pub fn write_witness(setting: Setting, right: usize, s1: &[i64], s2: &[i64], out
             setting.k,
             &mut out[start..end],
         );
-        i += 1;
     }
 }

@@ -7,6 +7,7 @@ ghost use Rattle.digits.specs.Digits.{step_of, sign_of, digits_of, row_digits};
 
 // A base b, and its reciprocal, by which sizes are divided: a product and a shift. The machine's own division may take
 // longer for one size than for another, and the compiler puts a test of the size before it.
+// That it is a base of the rule (IsBase) stays a clause, and is no invariant: `new` asks for no upper bound of b.
 #[derive(Clone, Copy)]
 pub struct Base {
     pub b: u64,
@@ -23,7 +24,7 @@ impl Base {
         ensures { result ≡ base_of b }
     {
         Base {
-            b: b,
+            b,
             reciprocal: Base::SCALE / b + 1,
         }
     }
@@ -74,26 +75,23 @@ pub fn write_digits(x: i64, base: Base, out: &mut [i64])
 {
     let sign = sign_of(x);
     let mut w = (sign * x) as u64;
-    let mut p: usize = 0;
-    while p < out.len() {
+    for digit in out.iter_mut() {
         let s = take_digit(w, base);
-        out[p] = sign * s.digit;
+        *digit = sign * s.digit;
         w = s.rest;
-        p += 1;
     }
 }
 
 // Writes the k digits of each entry of s into its own part of the row.
+// By ranges of it: `chunks_exact_mut` asks for a k above 0, which `digits_ss` does not ask of C.
 pub fn write_row(s: &[i64], base: Base, k: usize, row: &mut [i64])
     requires base { IsBase base × AllInReach base.b s.now }
     requires row_len { length row.old ≡ length s.now * k }
     ensures { row.new ≡ row_digits base.b k s.now }
 {
-    let mut j: usize = 0;
-    while j < s.len() {
+    for (j, x) in s.iter().enumerate() {
         let start = j * k;
         let end = start + k;
-        write_digits(s[j], base, &mut row[start..end]);
-        j += 1;
+        write_digits(*x, base, &mut row[start..end]);
     }
 }

@@ -1,7 +1,7 @@
--- Sums of products: their sizes, and how two halves make a whole.
+-- Sums of products: their sizes, and how they grow.
 use mathlib.Core.Path.{◌≡◌, sym, ◌∙◌, ap, ap₂}
 use mathlib.Core.List.{List}
-use Prim.Native.Nat.{ℕ, ◌+◌, ◌*◌, ◌^◌, ◌<◌, ◌≤◌}
+use Prim.Native.Nat.{ℕ, ◌+◌, ◌-◌, ◌*◌, ◌^◌, ◌<◌, ◌≤◌}
 use native.Mathlib.Omega.{arith}
 use native.Mathlib.Nat.{add_assoc, add-zero, zero-add, mul-le-mul, mul-le-mul_right}
 use lib.ListN.{get_or}
@@ -16,7 +16,7 @@ use Rattle.integers.proofs.Words.{Held, held, read_back}
 use Rattle.matrices.specs.Elements.{exactly}
 use Rattle.matrices.proofs.Elements.{exactly-sums, turn}
 use Rattle.small_rows.specs.Small.{Within}
-use Rattle.dots.specs.Dots.{dots, sizes_of, Reach}
+use Rattle.dots.specs.Dots.{dots, sizes_of}
 
 -- a number of 16 bits in 32, and the product of two
 wide : (z : ℤ) → SFits w16 z → Held w32 (to_z w16 (of_z w16 z)) z
@@ -60,6 +60,16 @@ module _ (p q : List ℤ) where
   unfolding sum
   dots-one x y fp fq e = e ∙ ap₂ ◌*ℤ◌ (to_z-of_z w16 (get_or p x (pos 0)) fp) (to_z-of_z w16 (get_or q y (pos 0)) fq) ∙ rw (add-zero x, add-zero y, +ℤ_idl)
 
+  -- one product more, as the machine adds it
+  pub dots-next : (x y n k : ℕ) {s a : ℤ} → k < n → sizes_of p q x y n < 2 ^ 31 → s ≡ dots p q x y k → a ≡ dots p q (x + k) (y + k) 1
+      → Held w32 (s +ℤ to_z w32 (of_z w32 a)) (dots p q x y (k + 1))
+  dots-next x y n k h fits es ea =
+      let e : k + 1 + (n - (k + 1)) ≡ n = omega arith in
+      let rest = rw e at (sizes-more x y (k + 1) (n - (k + 1))) in
+      let whole : sizes_of p q x y (k + 1) < 2 ^ 31 = omega (arith, rest) in
+      let one : sizes_of p q (x + k) (y + k) 1 < 2 ^ 31 = omega (arith, sizes-more x y k 1) in
+      dots-held x y (k + 1) whole (ap₂ ◌+ℤ◌ es (dots-held (x + k) (y + k) 1 one ea).read ∙ dots-more x y k 1)
+
   -- 32 of them in 64 bits
   pub dots-wide : (x y : ℕ) {v : ℤ} → sizes_of p q x y 32 < 2 ^ 31 → v ≡ dots p q x y 32 → Held w64 (to_z w32 (of_z w32 v)) (dots p q x y 32)
   dots-wide x y h e = held w64 (dots-held x y 32 h e).read (omega (arith, dots-size x y 32))
@@ -93,25 +103,3 @@ module _ (p q : List ℤ) where
   pub dots-past : (y n k : ℕ) → n ≤ k → ((x : ℕ) → n ≤ x → get_or p x (pos 0) ≡ pos 0) → dots p q 0 y k ≡ dots p q 0 y n
   dots-past y n k h zero = sum_past n k (λ r. get_or p (0 + r) (pos 0) *ℤ get_or q (y + r) (pos 0)) h
       (λ r l. ap (λ (z : ℤ). z *ℤ get_or q (y + r) (pos 0)) (zero (0 + r) (omega arith)) ∙ zero-*ℤ (get_or q (y + r) (pos 0)))
-
--- the two halves of what may be summed
-module _ {p q : List ℤ} {x y : ℕ} (n : ℕ) (r : Reach p q x y (n + n)) where
-  pub first-half : Reach p q x y n
-  first-half = record { left = omega (arith, r.left); right = omega (arith, r.right); fits = omega (arith, r.fits, sizes-more p q x y n n) }
-
-  pub second-half : Reach p q (x + n) (y + n) n
-  second-half = record { left = omega (arith, r.left); right = omega (arith, r.right); fits = omega (arith, r.fits, sizes-more p q x y n n) }
-
-  -- their sum, as the machine has it
-  pub double : {a b : ℤ} → a ≡ dots p q x y n → b ≡ dots p q (x + n) (y + n) n → Held w32 (to_z w32 (of_z w32 a) +ℤ to_z w32 (of_z w32 b)) (dots p q x y (n + n))
-  double ea eb =
-      dots-held p q x y (n + n) r.fits
-      (ap₂ ◌+ℤ◌ (dots-held p q x y n first-half.fits ea).read (dots-held p q (x + n) (y + n) n second-half.fits eb).read ∙ dots-more p q x y n n)
-
--- two products
-pub two : {p q : List ℤ} {x y : ℕ} {a b : ℤ} → Reach p q x y 2
-    → SFits w16 (get_or p x (pos 0)) → SFits w16 (get_or q y (pos 0)) → SFits w16 (get_or p (x + 1) (pos 0)) → SFits w16 (get_or q (y + 1) (pos 0))
-    → a ≡ to_z w16 (of_z w16 (get_or p x (pos 0))) *ℤ to_z w16 (of_z w16 (get_or q y (pos 0)))
-    → b ≡ to_z w16 (of_z w16 (get_or p (x + 1) (pos 0))) *ℤ to_z w16 (of_z w16 (get_or q (y + 1) (pos 0)))
-    → Held w32 (to_z w32 (of_z w32 a) +ℤ to_z w32 (of_z w32 b)) (dots p q x y 2)
-two {p} {q} {x} {y} r fp fq gp gq ea eb = double 1 r (dots-one p q x y fp fq ea) (dots-one p q (x + 1) (y + 1) gp gq eb)

@@ -1,37 +1,10 @@
 -- The radius is the greatest number whose square times m is at most B, and a witness entry is within it.
-use Rattle.std.proofs.Common.{◌≡◌, ℕ, zero, suc, ◌+◌, ◌-◌, ◌*◌, ◌/◌, ◌%◌, ◌^◌, ◌<◌, ◌≤◌, Bool, true, false, cond, leb, ℤ, pos, ◌-ℤ◌, nat_abs, refl, ap, ◌∙◌, ⊎_elim, le_refl, mul-le-mul_right, mod-lt, mul_comm, mul-le-mul, pow-suc, le-div_iff_mul-le, add-one, arith, pow_pos, le-leb}
+use Rattle.std.proofs.Common.{◌≡◌, ℕ, zero, suc, ◌+◌, ◌*◌, ◌/◌, ◌%◌, ◌^◌, ◌<◌, ◌≤◌, cond, ℤ, pos, ◌-ℤ◌, nat_abs, ⊎_elim, mul-le-mul_right, mod-lt, mul-le-mul, pow-suc, le-div_iff_mul-le, arith, le-leb}
 use native.Mathlib.Omega.{by_contra}
 use borrow.Author.Tests.{lt-leb}
-use Rattle.integers.proofs.Tests.{le_or_lt, leb-same}
+use Rattle.integers.proofs.Tests.{le_or_lt}
 use Rattle.integers.proofs.Ring.{pos-minus, diff_cases}
 use Rattle.draws.specs.Draws.{upper, witness_of, reaches, radius_from, radius}
-
--- ---- the turns of the search, which compares r² with B / m
-
-by_division : (m B x : ℕ) → 1 ≤ m → leb (x * m) B ≡ leb x (B / m)
-by_division m B x low = leb-same (x * m) B x (B / m) ((λ h. (le-div_iff_mul-le low).1 h), (λ h. (le-div_iff_mul-le low).0 h))
-
--- one bit
-pub turn : (m B n r : ℕ) → 1 ≤ m → radius_from (n + 1) m B r ≡ radius_from n m B (cond (leb ((r + 2 ^ n) * (r + 2 ^ n)) (B / m)) (r + 2 ^ n) r)
-unfolding radius_from
-turn m B n r low = rw (add-one n) (ap (λ (c : Bool). radius_from n m B (cond c (r + 2 ^ n) r)) (by_division m B ((r + 2 ^ n) * (r + 2 ^ n)) low))
-
-pub turns_done : (m B r : ℕ) → radius_from 0 m B r ≡ r
-unfolding radius_from
-turns_done m B r = refl
-
--- whichever of two numbers is kept, it is at most the larger
-pub kept_small : (c : Bool) (r x : ℕ) → r ≤ x → cond c x r ≤ x
-kept_small true r x h = le_refl x
-kept_small false r x h = h
-
--- a power of two and its half
-pub half_of : (n : ℕ) → 0 < n → (2 ^ n ≡ 2 * 2 ^ (n - 1)) × (1 ≤ 2 ^ (n - 1))
-half_of zero h = absurd (omega arith)
-half_of (suc n) h = (rw (back n) (pow-suc 2 n ∙ mul_comm (2 ^ n) 2), pow_pos (suc n - 1))
-  where
-    back : (n : ℕ) → suc n - 1 ≡ n
-    back n = omega arith
 
 -- ---- what it finds
 
@@ -56,14 +29,33 @@ unfolding radius_from
 searched m B zero r s = s
 searched m B (suc n) r s = searched m B n _ (bit m B n r s)
 
--- r² m ≤ B, and no greater number has it
+-- r² m ≤ B, and (r + 1)² m is above it
+found : (m B : ℕ) → 1 ≤ m → B < 2 ^ 64 → Search m B 0 (radius m B)
+found m B m-low B_high = searched m B 32 0 (record { low = omega arith; high = omega (arith, m-low, B_high) })
+
+-- it is the only such number: that whose square is the last one up to B / m
+pub radius-is-root : (m B r : ℕ) → 1 ≤ m → B < 2 ^ 64 → r * r ≤ B / m → B / m < (r + 1) * (r + 1) → r ≡ radius m B
+radius-is-root m B r m-low B_high low high =
+    let f = found m B m-low B_high in
+    let r-low : r * r * m ≤ B = (le-div_iff_mul-le m-low).0 low in
+    let up : r ≤ radius m B = by_contra r (radius m B) (λ l.
+    let k : radius m B + 1 ≤ r = omega arith in
+    omega (arith, r-low, f.high, mul-le-mul_right m (mul-le-mul k k))) in
+    let down : radius m B ≤ r = by_contra (radius m B) r (λ l.
+    let k : r + 1 ≤ radius m B = omega arith in
+    let s : (r + 1) * (r + 1) * m ≤ B = omega (arith, f.low, mul-le-mul_right m (mul-le-mul k k)) in
+    let q : (r + 1) * (r + 1) ≤ B / m = (le-div_iff_mul-le m-low).1 s in
+    omega (arith, q, high)) in
+    omega (arith, up, down)
+
+-- no greater number x has x² m ≤ B
 pub radius-greatest : (m B : ℕ) → 1 ≤ m → B ≤ 2 ^ 62 → (radius m B * radius m B * m ≤ B) × ((x : ℕ) → x * x * m ≤ B → x ≤ radius m B)
 radius-greatest m B m-low B_high =
-    let found : Search m B 0 (radius m B) = searched m B 32 0 (record { low = omega arith; high = omega (arith, m-low, B_high) }) in (
-      found.low,
+    let f = found m B m-low (omega (arith, B_high)) in (
+      f.low,
       λ x h. by_contra x (radius m B) (λ l.
           let k : radius m B + 1 ≤ x = omega arith in
-          omega (arith, h, found.high, mul-le-mul_right m (mul-le-mul k k))),
+          omega (arith, h, f.high, mul-le-mul_right m (mul-le-mul k k))),
     )
 
 -- so r is well below 2^32

@@ -1,43 +1,39 @@
 // Draws of a test load, and the entries that are made of them.
 #![tactic(auto)]
 
-ghost use Rattle.std.specs.Prelude.{◌≡◌, ◌*◌, ◌^◌, ◌<◌, ◌≤◌, length, if◌then◌else◌, nat_le};
+ghost use Rattle.std.specs.Prelude.{◌≡◌, ℕ, ◌*◌, ◌^◌, ◌<◌, ◌≤◌, length};
 ghost use Rattle.draws.specs.Draws.{next, after, drawn, word_of, challenge_of, witness_of, radius};
 
 // The next state, which is the draw.
+#[tactic(auto, unfolding(crate::specs::Draws::next))]
 pub fn draw(s: u64) -> u64
     ensures { result ≡ next s }
 {
-    std::num::wrapping_add_u64(
-        integers::wrapping_mul(s, 6364136223846793005),
-        1442695040888963407,
-    )
+    s.wrapping_mul(6364136223846793005)
+        .wrapping_add(1442695040888963407)
 }
 
-// x where its square is at most the limit, else r.
-fn further(r: u64, x: u64, most: u64) -> u64
-    requires { x < 2 ^ 32 }
-    ensures { result ≡ (if nat_le (x * x) most then x else r) }
-{
-    if x * x <= most { x } else { r }
-}
-
-// The greatest r with r^2 m at most the bound, bit by bit. r^2 is compared with the bound divided by m, so that nothing
-// wraps.
+// The greatest r with r^2 m at most the bound: with r^2 at most the bound divided by m, so that nothing wraps.
 pub fn radius_of(m: u64, bound: u64) -> u64
     requires { 1 ≤ m }
     ensures { (result ≡ radius m bound) × (result < 2 ^ 32) }
 {
-    let most = bound / m;
-    let mut step: u64 = 4294967296;
-    let mut r: u64 = 0;
-    let mut n: usize = 32;
-    while 0 < n {
-        n -= 1;
-        step = step / 2;
-        r = further(r, r + step, most);
+    (bound / m).isqrt()
+}
+
+// Fills the slice with entries that are made of draws from the state s on, and answers the state after them.
+fn fill<T: Copy, E: Fn(u64) -> T>(out: &mut [T], s: u64, entry: E) -> u64
+    requires { E.IsAlwaysCallable entry }
+    ensures made { (of : ℕ → T) → ((x : ℕ) (v : T) → x < 2 ^ 64 → E.post entry x v → v ≡ of x)
+        → out.new ≡ drawn of (length out.old) s }
+    ensures moved { result ≡ after (length out.old) s }
+{
+    let mut state = s;
+    for place in out.iter_mut() {
+        state = draw(state);
+        *place = entry(state);
     }
-    r
+    state
 }
 
 // Fills the slice with draws from the state s on, and answers the state after them.
@@ -45,14 +41,7 @@ pub fn fill_words(out: &mut [u64], s: u64) -> u64
     ensures { (out.new ≡ drawn word_of (length out.old) s)
         × (result ≡ after (length out.old) s) }
 {
-    let mut state = s;
-    let mut i: usize = 0;
-    while i < out.len() {
-        state = draw(state);
-        out[i] = state;
-        i += 1;
-    }
-    state
+    fill(out, s, |draw| draw)
 }
 
 // The witness entry of a draw: its upper 32 bits modulo 2r + 1, less r.
@@ -69,14 +58,7 @@ pub fn fill_witness(out: &mut [i64], r: u64, s: u64) -> u64
     ensures { (out.new ≡ drawn (witness_of r) (length out.old) s)
         × (result ≡ after (length out.old) s) }
 {
-    let mut state = s;
-    let mut i: usize = 0;
-    while i < out.len() {
-        state = draw(state);
-        out[i] = witness_entry(state, r);
-        i += 1;
-    }
-    state
+    fill(out, s, |draw| witness_entry(draw, r))
 }
 
 // Fills the slice with challenge bytes of draws from the state s on, and answers the state after them.
@@ -84,12 +66,5 @@ pub fn fill_challenge(out: &mut [u8], s: u64) -> u64
     ensures { (out.new ≡ drawn challenge_of (length out.old) s)
         × (result ≡ after (length out.old) s) }
 {
-    let mut state = s;
-    let mut i: usize = 0;
-    while i < out.len() {
-        state = draw(state);
-        out[i] = (state / 4294967296 % 3) as u8;
-        i += 1;
-    }
-    state
+    fill(out, s, |draw| (draw / 4294967296 % 3) as u8)
 }

@@ -1,38 +1,39 @@
 -- What the end of the input comes to.
-use mathlib.Core.Path.{◌≡◌, refl, sym, ◌∙◌, ap}
+use mathlib.Core.Path.{◌≡◌, refl}
 use mathlib.Core.List.{List, [], ◌∷◌}
 use Prim.Native.Nat.{ℕ, ◌+◌, ◌≤◌, ◌<◌}
 use native.Mathlib.Omega.{arith}
 use lib.ListN.{length, take}
-use Rattle.settings.specs.Settings.{Parameters, parameters_of}
-use Rattle.chain.specs.Reports.{refused_line}
+use lib.Seq.{length-take-le}
 use Rattle.line_machines.specs.Machines.{last_output}
-use Rattle.chain.specs.Chain.{Counts, Step, bad_line, end_due, at_end}
-use Rattle.states.specs.Lent.{Store, stage_of, counts_of, state_of, step_of}
+use Rattle.chain.specs.Reports.{refused_line}
+use Rattle.chain.specs.Chain.{Counts, State, bad_line, end_due, at_end}
+use Rattle.states.specs.Held.{stage_of}
 use Rattle.states.specs.declared.Due.{Due}
 use Rattle.states.specs.declared.Due.TheVariants as Dues
-use Rattle.states.specs.declared.Run.{Run}
-use Rattle.states.specs.declared.Taken.{Taken}
+use Rattle.states.specs.declared.stores.Store.{Store}
 
 -- where neither a leaf nor nothing is due a line is missing: the end of the input is 13 there
-pub end_missing : (n : Counts) (d : Due) (under : ℕ) (p : Parameters) (m : Store) → (d ≡ Dues.Leaf → ⊥) → (d ≡ Dues.Nothing → ⊥)
-    → end_due n (stage_of d under p m) ≡ refused_line (n.line + 1) 13
+pub end_missing : (n : Counts) (d : Due) (under : ℕ) (m : Store) → ((s : _) → d ≡ Dues.Leaf s → ⊥) → (d ≡ Dues.Nothing → ⊥)
+    → end_due n (stage_of d under m) ≡ refused_line (n.line + 1) 13
 unfolding stage_of end_due
-end_missing n Dues.Param under p m h k = refl
-end_missing n Dues.Matrix under p m h k = refl
-end_missing n Dues.First under p m h k = refl
-end_missing n Dues.Challenge under p m h k = refl
-end_missing n Dues.Leaf under p m h k = absurd (h refl)
-end_missing n Dues.Nothing under p m h k = absurd (k refl)
+end_missing n Dues.Param under m h k = refl
+end_missing n (Dues.Matrix s) under m h k = refl
+end_missing n (Dues.First s) under m h k = refl
+end_missing n (Dues.Challenge s) under m h k = refl
+end_missing n (Dues.Leaf s) under m h k = absurd (h s refl)
+end_missing n Dues.Nothing under m h k = absurd (k refl)
 
-module _ (r : Run) (m : Store) (out : List ℕ) where
-  pub end_bad : (rest : List ℕ) (t : Taken) → 0 < length rest → step_of t m out ≡ bad_line (counts_of r) (state_of r m).stage → take t.length out ≡ at_end (state_of r m) rest
-  unfolding last_output
-  end_bad [] t h come = absurd (omega arith)
-  end_bad (x ∷ rest) t h come = ap (λ (s : Step). s.output) come
+-- a line that is under way at the end is bad
+pub end_bad : (s : State) (line : List ℕ) (k : ℕ) → 0 < k → k ≤ length line → at_end s (take k line) ≡ (bad_line s.counts s.stage).output
+unfolding last_output
+end_bad s line k h l = go (take k line) (length-take-le k line l)
+  where
+    go : (rest : List ℕ) → length rest ≡ k → at_end s rest ≡ (bad_line s.counts s.stage).output
+    go [] e = absurd (omega arith)
+    go (x ∷ rest) e = refl
 
-  pub end-due : (rest : List ℕ) (n : ℕ) (d : Due) → length rest ≤ 0 → r.due ≡ d → take n out ≡ end_due (counts_of r) (stage_of d r.under (parameters_of r.setting) m)
-      → take n out ≡ at_end (state_of r m) rest
-  unfolding last_output
-  end-due [] n d h e is = is ∙ ap (λ (d : Due). end_due (counts_of r) (stage_of d r.under (parameters_of r.setting) m)) (sym e)
-  end-due (x ∷ rest) n d h e is = absurd (omega arith)
+-- and where none is, the end is that of what is due
+pub end-due : (s : State) (line : List ℕ) (k : ℕ) → k ≤ 0 → at_end s (take k line) ≡ end_due s.counts s.stage
+unfolding last_output
+end-due s line k h = let none : k ≡ 0 = omega arith in rw none refl

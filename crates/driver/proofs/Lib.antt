@@ -1,3 +1,3 @@
 mod Reading
-mod ChunkParts
 mod Ends
+pub mod Words

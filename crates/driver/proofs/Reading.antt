@@ -1,60 +1,65 @@
 -- What comes of a part of a chunk, from where it was cut.
 use borrow.Author.Tests.{not-true, not-false}
-use mathlib.Core.Path.{◌≡◌, sym, ◌∙◌, ap, subst}
-use mathlib.Core.Bool.{Bool, true, false, not, cond}
-use mathlib.Core.List.{List, []}
-use Prim.Native.Nat.{ℕ, ◌+◌, ◌≤◌}
+use mathlib.Core.Path.{◌≡◌, refl, sym, ◌∙◌, ap, subst}
+use mathlib.Core.Bool.{Bool, not, true, false, cond}
+use mathlib.Core.List.{List, [], ◌∷◌}
+use Prim.Native.Nat.{ℕ, ◌-◌}
 use native.Mathlib.Omega.{arith}
-use lib.ListN.{length, take}
-use Rattle.line_machines.specs.Machines.{Fed, ended, feed_all, feed_output}
-use Rattle.line_machines.specs.Cuts.{cut_to, cut_of, CutWithin}
+use lib.ListN.{length, take, drop, length-drop, take-append-drop}
+use lib.Seq.{take_all}
+use Rattle.line_machines.specs.Machines.{Feeding, Fed, ended, feed_all, feed_output}
+use Rattle.line_machines.specs.Cuts.{cut_to, cut_of}
 use Rattle.line_machines.specs.declared.Cut.{Cut}
+use Rattle.line_machines.proofs.Bytes.{feed_append}
 use Rattle.line_machines.proofs.Cutting.{Feeds, cut_feeds}
 use Rattle.chain.specs.Chain.{State, Step, take_line, chain_machine}
-use Rattle.states.specs.Lent.{Store, Sound, state_of, step_of}
-use Rattle.states.specs.declared.Taken.{Taken}
-use Rattle.driver.specs.Feeds.{feeding_of, Steady}
-use Rattle.driver.specs.Readings.{FedWithin}
-use Rattle.driver.specs.declared.feeds.Feed.{Feed}
 
-module _ (f : Feed) (line line' chunk : List ℕ) (m : Store) (r : Cut) (e : cut_to r.used (take r.length line') r.ended ≡ cut_of (take f.length line) chunk) where
+abbrev feeding : State → List ℕ → Feeding State
+feeding s line = record { state = s; pending = line }
+
+module _ (s : State) (before line chunk : List ℕ) (r : Cut) (e : cut_to r.used (take r.length line) r.ended ≡ cut_of before chunk) where
   -- the bytes up to the cut
-  fed : Feeds chain_machine (state_of f.run m) (take f.length line) chunk (cut_to r.used (take r.length line') r.ended)
-  fed = subst (Feeds chain_machine (state_of f.run m) (take f.length line) chunk) (sym e) (cut_feeds chain_machine (state_of f.run m) chunk (take f.length line))
+  fed : Feeds chain_machine s before chunk (cut_to r.used (take r.length line) r.ended)
+  fed = subst (Feeds chain_machine s before chunk) (sym e) (cut_feeds chain_machine s chunk before)
 
   -- what comes of the cut, by whether the line has ended
   abbrev after : Bool → Fed State
-  after b = cond b (ended (take_line (state_of f.run m) (take r.length line'))) (record { feeding = record { state = state_of f.run m; pending = take r.length line' }; output = [] })
+  after b = cond b (ended (take_line s (take r.length line))) (record { feeding = feeding s (take r.length line); output = [] })
 
   -- the line goes on
-  pub goes_on : not r.ended ≡ true
-      → (feeding_of (record { run = f.run; length = r.length }) line' m ≡ feed_all chain_machine (feeding_of f line m) (take r.used chunk))
-      × (◌≡◌ {A = List ℕ} [] (feed_output chain_machine (feeding_of f line m) (take r.used chunk)))
-  goes_on h =
-      let open' = not-true r.ended h in
-      (sym (fed.0 ∙ ap (λ (b : Bool). (after b).feeding) open'), sym (fed.1 ∙ ap (λ (b : Bool). (after b).output) open'))
+  module _ (h : not r.ended ≡ true) where
+    pub goes_on : feeding s (take r.length line) ≡ feed_all chain_machine (feeding s before) (take r.used chunk)
+    goes_on = sym (fed.0 ∙ ap (λ (b : Bool). (after b).feeding) (not-true r.ended h))
+
+    pub no_output : ◌≡◌ {A = List ℕ} [] (feed_output chain_machine (feeding s before) (take r.used chunk))
+    no_output = sym (fed.1 ∙ ap (λ (b : Bool). (after b).output) (not-true r.ended h))
 
   -- the line has ended and is taken
-  pub line-ends : not r.ended ≡ false → (t : Taken) (m' : Store) (out : List ℕ) → step_of t m' out ≡ take_line (state_of f.run m) (take r.length line')
-      → (feeding_of (record { run = t.run; length = 0 }) line' m' ≡ feed_all chain_machine (feeding_of f line m) (take r.used chunk))
-      × (take t.length out ≡ feed_output chain_machine (feeding_of f line m) (take r.used chunk))
-  line-ends h t m' out q =
-      let shut = not-false r.ended h in (
-        ap (λ (s : Step). (ended s).feeding) q ∙ sym (fed.0 ∙ ap (λ (b : Bool). (after b).feeding) shut),
-        ap (λ (s : Step). s.output) q ∙ sym (fed.1 ∙ ap (λ (b : Bool). (after b).output) shut),
-      )
+  module _ (h : not r.ended ≡ false) (t : Step) (q : t ≡ take_line s (take r.length line)) where
+    pub line-ends : feeding t.state [] ≡ feed_all chain_machine (feeding s before) (take r.used chunk)
+    line-ends = ap (λ (s : Step). (ended s).feeding) q ∙ sym (fed.0 ∙ ap (λ (b : Bool). (after b).feeding) (not-false r.ended h))
 
-  -- what is kept
-  module _ (w : CutWithin r (length chunk)) (k : length line' ≡ length line) (s : Steady f line) where
-    pub kept_open : not r.ended ≡ true → FedWithin (record { feed = record { run = f.run; length = r.length }; used = r.used; length = 0 }) f line' (length chunk)
-    kept_open h = record {
-      used = w.used;
-      moves = w.moves;
-      steady = record { sound = s.sound; pending = w.short (not-true r.ended h); room = k ∙ s.room };
-      lines = omega arith;
-      length = omega arith;
-    }
+    pub line-output : t.output ≡ feed_output chain_machine (feeding s before) (take r.used chunk)
+    line-output = ap (λ (s : Step). s.output) q ∙ sym (fed.1 ∙ ap (λ (b : Bool). (after b).output) (not-false r.ended h))
 
-    pub kept-taken : (t : Taken) → Sound t.run → t.run.line ≤ f.run.line + 1 → t.length ≤ 512
-        → FedWithin (record { feed = record { run = t.run; length = 0 }; used = r.used; length = t.length }) f line' (length chunk)
-    kept-taken t a b c = record { used = w.used; moves = w.moves; steady = record { sound = a; pending = omega arith; room = k ∙ s.room }; lines = b; length = c }
+-- what is left of a chunk after n bytes, as the code has it
+module _ (n : ℕ) (chunk : List ℕ) where
+  pub rest-is : take (length chunk - n) (drop n chunk) ≡ drop n chunk
+  rest-is = take_all (length chunk - n) (drop n chunk) (rw length-drop (omega arith))
+
+  pub rest-long : length (take (length chunk - n) (drop n chunk)) ≡ length chunk - n
+  rest-long = ap length rest-is ∙ rw length-drop refl
+
+-- no byte is left
+pub rest_done : (f : Feeding State) (chunk : List ℕ) → length chunk ≡ 0 → f ≡ feed_all chain_machine f chunk
+unfolding feed_all
+rest_done f [] e = refl
+rest_done f (x ∷ chunk) e = absurd (omega arith)
+
+-- a part of a chunk, and then the rest of it
+pub part_and_rest : (f g : Feeding State) (n : ℕ) (chunk : List ℕ) → g ≡ feed_all chain_machine f (take n chunk)
+    → feed_all chain_machine g (drop n chunk) ≡ feed_all chain_machine f chunk
+part_and_rest f g n chunk e =
+    ap (λ (x : Feeding State). feed_all chain_machine x (drop n chunk)) e
+    ∙ sym (feed_append chain_machine f (take n chunk) (drop n chunk))
+    ∙ ap (feed_all chain_machine f) (take-append-drop n chunk)

@@ -1,20 +1,22 @@
--- What a feed and the lent slices stand for.
-use Rattle.std.specs.Prelude.{◌≡◌, List, ℕ, ◌+◌, ◌≤◌, length, take}
-use Rattle.line_machines.specs.Machines.{longest_line, Feeding, unfed}
+-- What a feed stands for.
+use Rattle.std.specs.Prelude.{◌≡◌, ℕ, ◌+◌, ◌≤◌, ◌<◌, take}
+use Rattle.line_machines.specs.Machines.{Feeding, unfed}
 use Rattle.chain.specs.Chain.{State, chain_machine}
-use Rattle.states.specs.Lent.{Store, Whatever, Sound, state_of}
+use Rattle.states.specs.Held.{state_of}
 use Rattle.driver.specs.declared.feeds.Feed.{Feed}
+use Rattle.driver.specs.declared.feeds.Taken.{Taken}
 
 -- the run state, and the beginning of the line buffer
-abbrev pub feeding_of : Feed → List ℕ → Store → Feeding State
-feeding_of f line m = record { state = state_of f.run m; pending = take f.length line }
+abbrev pub feeding_of : Feed → Feeding State
+feeding_of f = record { state = state_of f.run f.store; pending = take f.pending f.line }
 
--- a feed as a run comes to it
-pub record Steady (f : Feed) (line : List ℕ) : Type 0 where
-  pub sound : Sound f.run
-  pub pending : f.length ≤ longest_line
-  pub room : length line ≡ longest_line + 1
-
--- a feed that has read nothing, whatever the lent slices hold
+-- a feed that has read nothing
 abbrev pub Unfed : Feed → Type 0
-Unfed f = Sound f.run × (f.run.line ≡ 0) × (f.length ≡ 0) × ((line : List ℕ) → Whatever (λ m. feeding_of f line m ≡ unfed chain_machine))
+Unfed f = (f.run.line ≡ 0) × (f.pending ≡ 0) × (feeding_of f ≡ unfed chain_machine)
+
+-- what a feed keeps when it has taken a part of a chunk
+pub record TakenWithin (r : Taken) (before after : Feed) (size : ℕ) : Type 0 where
+  pub used : r.used ≤ size
+  pub moves : 0 < size → 0 < r.used
+  pub lines : after.run.line ≤ before.run.line + 1
+  pub printed : r.printed ≤ 512

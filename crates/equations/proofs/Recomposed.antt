@@ -14,31 +14,51 @@ use Rattle.matrices.specs.Triangles.{triangular, mirrored}
 use Rattle.matrices.proofs.Tables.{row_within}
 use Rattle.matrices.proofs.Triangles.{triangular_mono, mirrored-symmetric, both_sides-symmetric}
 use Rattle.settings.specs.declared.Setting.{Setting}
-use Rattle.settings.specs.Settings.{Parameters, k_of, HOf, repunit, parameters_of}
+use Rattle.settings.specs.Settings.{Parameters, k_of, HOf, repunit, setting_refusal, powers_of}
 use Rattle.settings.proofs.Accepted.{Accepted, accepted}
 use Rattle.settings.proofs.Powers.{length_powers, powers_at, repunit-sum}
 use Rattle.lova.specs.declared.Profile.{Profile}
-use Rattle.lova.specs.Stored.{right_for, right_of, columns_of}
-use Rattle.lova.specs.Calls.{Rebuilt, Bounded}
+use Rattle.lova.specs.Stored.{right_of, columns_of}
+use Rattle.lova.specs.Calls.{Bounded}
 use Rattle.lova.specs.Fold.{gadget}
 use Rattle.lova.proofs.Gadget.{gadget-right, gadget-both}
-use Rattle.lova.proofs.Rebuilding.{k-is}
+use Rattle.lova.proofs.Rebuilding.{k-is, rebuilt-is, rebuilt-accepted}
 use Rattle.lova.proofs.Tests.{mirrored-everywhere}
-use Rattle.lova.proofs.Widths.{columns-are, wide_is}
-use Rattle.equations.specs.Blocks.{Handed, Small, row_term}
+use Rattle.lova.proofs.Widths.{columns-are, right-high, wide_is, wide_high}
+use Rattle.equations.specs.Blocks.{Small, row_term}
+use Rattle.equations.specs.declared.parts.Parts.{Parts}
+use Rattle.equations.specs.Parts.{across, numbers}
 use Rattle.equations.proofs.RowSums.{block-rows}
 
--- a comparison is handed what stands in a setting that was built anew, and what follows from the profile
-pub handed : {s : Setting} {f : Profile} {right : ℕ} → Rebuilt s → right ≡ right_for s.t f
-    → Handed (parameters_of s) f s.t right s.k ((s.t + right) * s.k) s.powers
-handed {s} {f} {right} r e = record {
-  ok = r.ok;
-  t-is = refl;
-  right_is = e;
-  k-is = k-is s r;
-  wide_is = ap (λ (x : ℕ). (s.t + x) * s.k) e ∙ wide_is s r f;
-  powers_are = ap (λ (x : Setting). x.powers) r.whole;
-}
+-- the numbers and powers that a comparison goes by: those of p, which is accepted, and of the profile f
+pub record Handed (p : Parameters) (f : Profile) (t right k columns : ℕ) (powers : List ℕ) : Type 0 where
+  pub ok : setting_refusal p ≡ 0
+  pub t-is : t ≡ p.t
+  pub right_is : right ≡ right_of p f
+  pub k-is : k ≡ k_of p
+  pub wide_is : columns ≡ columns_of p f
+  pub powers_are : powers ≡ powers_of p.b (k_of p)
+
+pub handed : (x : Parts) → Handed (numbers x) x.profile x.accepted.now.setting.t x.right x.accepted.now.setting.k (across x * x.accepted.now.setting.k) x.accepted.now.setting.powers
+handed x =
+    let s = x.accepted.now.setting in
+    let r = rebuilt-is x.accepted.now in record {
+      ok = r.ok;
+      t-is = refl;
+      right_is = x.right_is;
+      k-is = k-is s r;
+      wide_is = ap (λ (y : ℕ). (s.t + y) * s.k) x.right_is ∙ wide_is s r x.profile;
+      powers_are = ap (λ (y : Setting). y.powers) r.whole;
+    }
+
+-- the matrices that are compared have at most 32 columns, and T~ and D~ at most 512
+pub narrow : (x : Parts) → across x ≤ 32
+narrow x =
+    let acc = rebuilt-accepted x.accepted.now.setting (rebuilt-is x.accepted.now) in
+    omega (arith, x.right_is, right-high x.accepted.now.setting.t x.profile acc.t-low, acc.t-high)
+
+pub few : (x : Parts) → across x * x.accepted.now.setting.k ≤ 512
+few x = omega (arith, (handed x).wide_is, wide_high x.accepted.now.setting (rebuilt-is x.accepted.now) x.profile)
 
 module _ {p : Parameters} {f : Profile} {t right k columns : ℕ} {powers : List ℕ} (h : Handed p f t right k columns powers) where
   facts : Accepted p

@@ -1,21 +1,9 @@
 -- Blocks of k rows and k columns of a symmetric matrix that is stored as its lower triangle x, summed up by powers.
-use Rattle.std.specs.Prelude.{◌≡◌, Bool, cond, ◌&&◌, List, ℕ, ◌+◌, ◌*◌, ◌^◌, ◌<◌, ◌≤◌, ltb, ℤ, pos, nat_abs, ◌+ℤ◌, ◌*ℤ◌, length, get_or}
+use Rattle.std.specs.Prelude.{Bool, cond, ◌&&◌, List, ℕ, ◌+◌, ◌*◌, ◌^◌, ◌<◌, ◌≤◌, ltb, ℤ, pos, nat_abs, ◌+ℤ◌, ◌*ℤ◌, length, get_or}
 use Rattle.integers.specs.Sums.{sum, sum_ℕ}
 use Rattle.matrices.specs.Matrices.{Matrix}
 use Rattle.matrices.specs.Triangles.{triangular}
-use Rattle.settings.specs.Settings.{Parameters, k_of, setting_refusal, powers_of}
-use Rattle.lova.specs.Stored.{right_of, columns_of}
 use Rattle.lova.specs.Tests.{eq_Z}
-use Rattle.lova.specs.declared.Profile.{Profile}
-
--- the numbers and powers are those of p, which is accepted, and of the profile f: what a comparison is handed in place of both
-pub record Handed (p : Parameters) (f : Profile) (t right k columns : ℕ) (powers : List ℕ) : Type 0 where
-  pub ok : setting_refusal p ≡ 0
-  pub t-is : t ≡ p.t
-  pub right_is : right ≡ right_of p f
-  pub k-is : k ≡ k_of p
-  pub wide_is : columns ≡ columns_of p f
-  pub powers_are : powers ≡ powers_of p.b (k_of p)
 
 -- k powers and entries within `bound`, small enough that no sum over a block leaves a signed word
 pub record Small (x : List ℤ) (powers : List ℕ) (k : ℕ) : Type 0 where

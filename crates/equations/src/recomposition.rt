@@ -15,10 +15,8 @@ fn weighted(x: &[i64], start: usize, powers: &[u64], k: usize) -> i64
         ≡ sum k (λ q. get_or x.now (start + q) (pos 0) *ℤ pos (get_or powers.now q 0)) }
 {
     let mut sum: i64 = 0;
-    let mut q: usize = 0;
-    while q < k {
+    for q in 0..k {
         sum = matrices::add_product(sum, x[start + q], powers[q] as i64);
-        q += 1;
     }
     sum
 }
@@ -46,16 +44,15 @@ pub(crate) fn weighted_block(x: &[i64], i: usize, j: usize, powers: &[u64], k: u
     ensures { result ≡ sum k (row_term x.now powers.now k i j) }
 {
     let mut sum: i64 = 0;
-    let mut q: usize = 0;
-    while q < k {
+    for q in 0..k {
         let row = block_row(x, i, j, powers, k, q);
         sum = matrices::add_product(sum, row, powers[q] as i64);
-        q += 1;
     }
     sum
 }
 
-// k entries of x, from `start` on, each times its power, modulo 2^64.
+// k entries of x, from `start` on, each times its power, modulo 2^64. No generic function with `weighted`: this one
+// asks no bound of its caller, and a trait would be longer than both loops.
 pub(crate) fn weighted_words(x: &[u64], start: usize, powers: &[u64], k: usize) -> u64
     requires { (start + k ≤ length x.now) × (k ≤ length powers.now) }
     ensures { result
@@ -63,10 +60,8 @@ pub(crate) fn weighted_words(x: &[u64], start: usize, powers: &[u64], k: usize) 
         (sum k (λ q. pos (get_or x.now (start + q) 0) *ℤ pos (get_or powers.now q 0))) }
 {
     let mut sum: u64 = 0;
-    let mut q: usize = 0;
-    while q < k {
+    for q in 0..k {
         sum = matrices::add_word_product(sum, x[start + q], powers[q]);
-        q += 1;
     }
     sum
 }

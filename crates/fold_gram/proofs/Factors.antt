@@ -1,13 +1,12 @@
 -- Means and multiples as the machine makes them, and what each factor adds.
-use mathlib.Core.Path.{◌≡◌, refl, sym, ◌∙◌, ap}
-use Prim.Native.Nat.{ℕ, ◌^◌, ◌≤◌}
+use mathlib.Core.Path.{◌≡◌, refl, ap}
+use Prim.Native.Nat.{◌^◌, ◌≤◌}
 use native.Mathlib.Omega.{arith}
 use native.Mathlib.Nat.{mul-le-mul}
-use lib.IntN.{ℤ, pos, negsuc, neg_ℤ, nat_abs, ◌*ℤ◌, *ℤ_comm, zero-*ℤ, *ℤ-one, *ℤ-negsuc, one}
+use lib.IntN.{ℤ, pos, nat_abs, ◌*ℤ◌}
 use lib.Signed.{quot_z}
 use mir.Syntax.{w16, w64}
-use mir.Val.{SFits, to_z, of_z}
-use mir.ValLaws.{to_z-of_z}
+use mir.Val.{to_z, of_z}
 use Rattle.integers.proofs.Sizes.{nat_abs-*, fits_in}
 use Rattle.integers.proofs.Words.{Held, held, read_back, times}
 use Rattle.small_rows.proofs.Small.{widened}
@@ -26,19 +25,3 @@ module _ (y : ℤ) (hy : nat_abs y ≤ 2 ^ 31) where
 
   pub twice-size : nat_abs (pos 2 *ℤ y) ≤ 2 ^ 32
   twice-size = omega (arith, nat_abs-* (pos 2) y)
-
--- a factor by its bits
-pub by_bits : (v : ℤ) (n : ℕ) → SFits w16 v → of_z w16 v ≡ n → v ≡ to_z w16 n
-by_bits v n f e = sym (to_z-of_z w16 v f) ∙ ap (to_z w16) e
-
--- what is added by the factors 1, −1 and 0
-pub by_one : (v x : ℤ) → v ≡ pos 1 → x ≡ v *ℤ x
-unfolding one
-by_one v x e = rw e (sym (*ℤ_comm (pos 1) x ∙ *ℤ-one x))
-
-pub by-minus-one : (v x : ℤ) → v ≡ negsuc 0 → neg_ℤ x ≡ v *ℤ x
-unfolding one
-by-minus-one v x e = rw e (sym (*ℤ_comm (negsuc 0) x ∙ *ℤ-negsuc x 0 ∙ ap neg_ℤ (*ℤ-one x)))
-
-pub by_zero : (v x : ℤ) → v ≡ pos 0 → pos 0 ≡ v *ℤ x
-by_zero v x e = rw e (sym (zero-*ℤ x))

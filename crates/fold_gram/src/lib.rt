@@ -23,14 +23,11 @@ fn left_row(d: &[i64], q: &[i16], n: usize, i: usize, e: &mut [i64])
         ≡ build n (product n (transposed (by_columns q.now)) (below_twice d.now) i) }
 {
     let mut from: usize = 0;
-    let mut k: usize = 0;
-    while k < n {
+    for k in 0..n {
         let to = from + k;
         let v = q[i * 512 + k];
         multiples::add_row(&d[from..to], v, &mut e[..k]);
-        let y = (v as i64) * d[to];
-        e[k] = y;
-        k += 1;
+        e[k] = (v as i64) * d[to];
         from = to + 1;
     }
 }
@@ -41,14 +38,12 @@ fn settle(t: usize, i: usize, out: &mut [i64])
     ensures { out.new ≡ table (i + 1) t (corner i (signed t out.old)
         (corner (i + 1) (mean (signed t out.old)) (signed t out.old))) }
 {
-    let mut j: usize = 0;
-    while j <= i {
+    for j in 0..=i {
         let low = i * t + j;
         let high = j * t + i;
         let x = (out[low] + out[high]) / 2;
         out[high] = x;
         out[low] = x;
-        j += 1;
     }
 }
 
@@ -59,30 +54,29 @@ fn fold_rows(d: &[i64], q: &[i16], n: usize, t: usize, e: &mut [i64], out: &mut 
     ensures { out.new
         ≡ table t t (both_sides n (by_columns q.now) (mirrored d.now)) }
 {
-    let mut i: usize = 0;
-    while i < t {
+    for i in 0..t {
         left_row(d, q, n, i, e);
         let from = i * t;
         let to = from + t;
         challenges::fold_row(e, q, t, &mut out[from..to]);
         settle(t, i, &mut out[..to]);
-        i += 1;
     }
 }
 
 // C transposed times D times C: D' of the digit products D~. q has n rows and t columns of 512 places; its numbers may
 // be sums of 16 of a challenge's. Few columns need no room for 512, which would have to be cleared.
+// q is a slice and no type, as `challenges` decodes it: an array that is filled in part.
 pub fn fold_gram(d: &[i64], q: &[i16], n: usize, t: usize, out: &mut [i64])
     requires { (length d.now ≡ triangular n) × Within (2 ^ 31) d.now × (n ≤ 512) × Within 16 q.now
         × (t * 512 ≤ length q.now) × (length out.old ≡ t * t) }
     ensures { out.new
         ≡ table t t (both_sides n (by_columns q.now) (mirrored d.now)) }
 {
+    // A local array is cleared at each call, so few columns take a small one; with the size as a const parameter
+    // `fold_rows` would be compiled once for each, which costs code size.
     if n <= 32 {
-        let mut e = [0i64; 32];
-        fold_rows(d, q, n, t, &mut e[..n], out);
+        fold_rows(d, q, n, t, &mut [0i64; 32][..n], out);
     } else {
-        let mut e = [0i64; 512];
-        fold_rows(d, q, n, t, &mut e[..n], out);
+        fold_rows(d, q, n, t, &mut [0i64; 512][..n], out);
     }
 }

@@ -1,87 +1,51 @@
 // The calls of a fold: message, folded witness and verdict. Settings are those that the chain program takes, so that
 // the message stands in local arrays.
-ghost use Rattle.std.specs.Prelude.{◌≡◌, true};
-ghost use Rattle.settings.specs.Settings.{parameters_of};
-ghost use Rattle.lova.specs.Answers.{ends, answer_of, verdict_of, verdict_leaves, count_after};
-ghost use Rattle.lova.specs.Calls.{Rebuilt};
+ghost use Rattle.std.specs.Prelude.{◌≡◌, true, IfOk};
+ghost use Rattle.settings.specs.Accepted.{parameters_in};
+ghost use Rattle.lova.specs.Answers.{ends, verdict_of, verdict_leaves};
 ghost use Rattle.chain.specs.Limits.{small, program_limits};
-ghost use Rattle.chain.specs.Nodes.{node_before, node_after, fold_answer, calls_of};
+ghost use Rattle.chain.specs.Nodes.{node_of, calls_of};
 
-use lova::{Answer, Profile, Verdict};
-use settings::Setting;
+use lova::{Instance, Message, Profile, Verdict};
+use settings::{AcceptedSetting, Refusal};
 
-// The first of message's, folded witness's and the verdict's answers that refuses, else the verdict's.
-fn fold_answer(said: Answer, folded: Answer, judged: Verdict) -> Verdict
-    ensures result_value { verdict_of result ≡ fold_answer (answer_of said) (answer_of folded) (verdict_of judged) }
-    ensures result_value_2 { verdict_leaves result ≡ count_after (verdict_of result) (verdict_leaves judged) 0 }
-{
-    match said {
-        Answer::Refused(number) => Verdict::Refused(number),
-        Answer::Done => match folded {
-            Answer::Refused(number) => Verdict::Refused(number),
-            Answer::Done => judged,
-        },
-    }
-}
-
-// The calls of a fold: message, folded witness and verdict. The message stays here.
+// Calls one after the other, up to the first that refuses. The message stays here.
+// The folded node comes as slices of its own, since it is written: an `Instance` is for what is only read.
 pub(crate) fn calls(
-    setting: Setting,
+    accepted: &AcceptedSetting,
     a: &[u64],
-    t1: &[u64],
-    d1: &[i64],
-    leaves1: u32,
+    first: Instance,
     s1: &[i64],
-    t2: &[u64],
-    d2: &[i64],
-    leaves2: u32,
+    second: Instance,
     s2: &[i64],
     c: &[u8],
     t: &mut [u64],
     d: &mut [i64],
     s: &mut [i64],
-) -> Verdict
-    requires rebuilt { Rebuilt setting }
-    requires setting_value { small program_limits (parameters_of setting) ≡ true }
-    ensures { ends (verdict_of result) (node_after t.new d.new (verdict_leaves result) s.new)
-        ≡ calls_of (parameters_of setting) a.now (node_before t1.now d1.now leaves1 s1.now)
-        (node_before t2.now d2.now leaves2 s2.now) c.now (node_before t.old d.old 0 s.old) }
+) -> Result<Verdict, Refusal>
+    requires { small program_limits (parameters_in accepted.now) ≡ true }
+    ensures answer { verdict_of result
+        ≡ (calls_of (parameters_in accepted.now) a.now
+        (node_of first.entry.t.now first.entry.d.now first.entry.leaves s1.now)
+        (node_of second.entry.t.now second.entry.d.now second.entry.leaves s2.now) c.now
+        (node_of t.old d.old 0 s.old)).answer }
+    ensures node { IfOk result (λ _. ends (verdict_of result) (node_of t.new d.new (verdict_leaves result) s.new)
+        ≡ calls_of (parameters_in accepted.now) a.now
+        (node_of first.entry.t.now first.entry.d.now first.entry.leaves s1.now)
+        (node_of second.entry.t.now second.entry.d.now second.entry.leaves s2.now) c.now
+        (node_of t.old d.old 0 s.old)) }
 {
+    let setting = accepted.setting;
     let mut v = [0i64; 4];
     let mut tt = [0u64; 256];
     let mut dd = [0i64; 528];
     let mut ss = [0i64; 512];
-    let size_v = setting.t * setting.t;
-    let size_tt = setting.n * setting.columns;
-    let size_dd = setting.columns * (setting.columns + 1) / 2;
-    let size_ss = setting.m * setting.columns;
-    let said = messages::message(
-        setting,
-        Profile::General,
-        a,
-        s1,
-        s2,
-        &mut v[..size_v],
-        &mut tt[..size_tt],
-        &mut dd[..size_dd],
-        &mut ss[..size_ss],
-    );
-    let folded = witnesses::fold_witness(setting, Profile::General, &ss[..size_ss], c, s);
-    let judged = verdicts::verify(
-        setting,
-        Profile::General,
-        t1,
-        d1,
-        leaves1,
-        t2,
-        d2,
-        leaves2,
-        &v[..size_v],
-        &tt[..size_tt],
-        &dd[..size_dd],
-        c,
-        t,
-        d,
-    );
-    fold_answer(said, folded, judged)
+    let v = &mut v[..setting.t * setting.t];
+    let tt = &mut tt[..setting.n * setting.columns];
+    let dd = &mut dd[..setting.columns * (setting.columns + 1) / 2];
+    let ss = &mut ss[..setting.m * setting.columns];
+    messages::message(setting, Profile::General, a, s1, s2, v, tt, dd, ss)?;
+    witnesses::fold_witness(setting, Profile::General, ss, c, s)?;
+    let message = Message { v, tt, dd };
+    verdicts::verify(setting, Profile::General, first, second, message, c, t, d)
 }

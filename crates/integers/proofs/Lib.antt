@@ -4,5 +4,4 @@ pub mod Sizes
 pub mod Lists
 pub mod Sums
 pub mod Residues
-pub mod Products
 pub mod Words

@@ -1,14 +1,16 @@
 -- Signed words: what a test against 0 tells, −1 − s of a negative s, and a word by its size and its sign.
-use Rattle.std.proofs.Common.{◌≡◌, ℕ, suc, ◌*◌, ◌^◌, ◌<◌, ◌≤◌, Bool, true, false, T, ℤ, pos, negsuc, ◌+ℤ◌, ◌-ℤ◌, ◌*ℤ◌, neg_ℤ, nat_abs, sym, refl, ap, ◌∙◌, subst, ap₂, arith, w64, Fits, SFits, to_z, of_z, ltb-true, le-leb}
+use Rattle.std.proofs.Common.{◌≡◌, ℕ, suc, ◌*◌, ◌^◌, ◌<◌, ◌≤◌, Bool, true, false, T, ◌↔◌, ℤ, pos, negsuc, ◌+ℤ◌, ◌-ℤ◌, ◌*ℤ◌, neg_ℤ, nat_abs, sym, refl, ap, ◌∙◌, subst, ap₂, arith, w64, Fits, SFits, to_z, of_z, ltb-true, lt_of_not-le, le-leb}
 use lib.IntN.{pred_ℤ, pred_ℤ-+ℤ, +ℤ_idl, pos-ne-negsuc}
 use lib.Signed.{lt_z, non_neg}
 use borrow.Author.Tests.{lt-leb}
 use mir.Syntax.{Width}
 use mir.Val.{hbits}
 use mir.Facts.{Fits-nat_abs}
-use mir.ValLaws.{to_z-of_z, to_z_pos}
-use Rattle.integers.proofs.Sizes.{nat_abs_negate, nat_abs-+, nat_abs-*, fits-by-size, fits_in}
-use Rattle.integers.specs.declared.Signed.TheVariants.{Word, TooLarge}
+use mir.ValLaws.{to_z-of_z}
+use Rattle.integers.proofs.Sizes.{nat_abs_negate, nat_abs-+, nat_abs-*, fits_in}
+use Rattle.std.specs.Prelude.{Option, Some, None}
+use Rattle.std.specs.Option.{SomeIff}
+use Rattle.integers.specs.Residues.{residue, word}
 use Rattle.integers.specs.Words.{largest, signed_by, signed_word}
 
 -- -1 - (-(k + 1)) is k
@@ -60,20 +62,18 @@ read-nonnegative z f e =
     (non_neg_pos z (tested_nonnegative z f e), Fits-nat_abs {w = w64} {z = z} tt f)
 
 -- a signed word by its size and its sign
-pub negated_fits : (n : ℕ) → n < 2 ^ 63 → SFits w64 (neg_ℤ (pos n))
-negated_fits n h = fits-by-size (neg_ℤ (pos n)) (omega (arith, nat_abs_negate (pos n)))
-
--- the machine's 0 − s of a word s that holds n
-pub negated : (n : ℕ) → n < 2 ^ 63 → pos 0 -ℤ to_z w64 n ≡ neg_ℤ (pos n)
-negated n h = ap (λ (y : ℤ). pos 0 -ℤ y) (to_z_pos w64 n h) ∙ +ℤ_idl (neg_ℤ (pos n))
-
-pub word-within : (n : ℕ) (negative : Bool) → n ≤ largest negative → signed_word n negative ≡ Word (signed_by negative n)
+pub word-within : (n : ℕ) (negative : Bool) → n ≤ largest negative → signed_word n negative ≡ Some (signed_by negative n)
 unfolding signed_word
 word-within n negative h = rw (le-leb n (largest negative) h) refl
 
-pub word-beyond : (n : ℕ) (negative : Bool) → largest negative < n → signed_word n negative ≡ TooLarge
+pub word-beyond : (n : ℕ) (negative : Bool) → largest negative < n → signed_word n negative ≡ None
 unfolding signed_word
 word-beyond n negative h = rw (lt-leb n (largest negative) h) refl
+
+-- what is a word of this size and sign exactly where it fits is the one that there is
+pub word-iff : (o : Option ℤ) (n : ℕ) (negative : Bool) (P : Type 0) → SomeIff o P (signed_by negative n) → P ↔ (n ≤ largest negative) → o ≡ signed_word n negative
+word-iff None n negative P none fits = sym (word-beyond n negative (lt_of_not-le (λ h. none (fits.1 h))))
+word-iff (Some z) n negative P some fits = ap Some some.1 ∙ sym (word-within n negative (fits.0 some.0))
 
 pub nat_abs-signed_by : (negative : Bool) (n : ℕ) → nat_abs (signed_by negative n) ≡ n
 unfolding signed_by
@@ -104,3 +104,9 @@ module _ {u w : ℤ} (a x : ℤ) (hu : u ≡ a) (hw : w ≡ x) where
 
   pub times : nat_abs a * nat_abs x ≤ 2 ^ 61 → Held w64 (u *ℤ w) (a *ℤ x)
   times h = held w64 (ap₂ ◌*ℤ◌ hu hw) (omega (arith, nat_abs-* a x))
+
+-- a word's bits, read and written again, are its residue
+pub bits_word : (z : ℤ) → SFits w64 z → of_z w64 (to_z w64 (of_z w64 z)) ≡ word z
+unfolding residue
+bits_word (pos n) f = ap (of_z w64) (to_z-of_z w64 (pos n) f) ∙ omega (arith, f.sfits)
+bits_word (negsuc n) f = ap (of_z w64) (to_z-of_z w64 (negsuc n) f) ∙ omega (arith, f.sfits)

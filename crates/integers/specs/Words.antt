@@ -1,7 +1,5 @@
 -- Signed words by their size and their sign.
-use Rattle.std.specs.Prelude.{ℕ, ◌-◌, ◌^◌, Bool, true, false, cond, ℤ, pos, neg_ℤ, nat_le}
-use Rattle.integers.specs.declared.Signed.{Signed}
-use Rattle.integers.specs.declared.Signed.TheVariants.{Word, TooLarge}
+use Rattle.std.specs.Prelude.{ℕ, ◌-◌, ◌^◌, Bool, true, false, cond, Option, Some, None, ℤ, pos, neg_ℤ, nat_le}
 
 -- the whole number of this size, below zero where `negative` says so
 unfoldable pub signed_by : Bool → ℕ → ℤ
@@ -13,6 +11,6 @@ abbrev pub largest : Bool → ℕ
 largest true = 2 ^ 63
 largest false = 2 ^ 63 - 1
 
--- the signed word of this size and sign, or TooLarge where there is none
-unfoldable pub signed_word : ℕ → Bool → Signed
-signed_word w negative = cond (nat_le w (largest negative)) (Word (signed_by negative w)) TooLarge
+-- the signed word of this size and sign, if there is one
+unfoldable pub signed_word : ℕ → Bool → Option ℤ
+signed_word w negative = cond (nat_le w (largest negative)) (Some (signed_by negative w)) None

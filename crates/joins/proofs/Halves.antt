@@ -5,16 +5,29 @@ use mathlib.Core.List.{List, ◌++◌}
 use Prim.Native.Nat.{ℕ, ◌+◌, ◌-◌, ◌*◌, ◌/◌, ◌%◌, ◌<◌, ◌≤◌}
 use native.Mathlib.Omega.{arith}
 use native.Mathlib.Nat.{add-mul}
-use lib.Arith.{digits_lt, digits_div, digits_mod}
+use lib.Arith.{le→nltb, digits_lt, digits_div, digits_mod}
+use lib.Dec.{ltb, lt→ltb}
 use lib.ListN.{length, get_or, take, drop, length-append, get_or-append}
 use lib.Seq.{get_or-append-add}
 use Rattle.integers.proofs.Lists.{filled-part}
-use Rattle.integers.proofs.Tests.{le_or_lt}
+use Rattle.integers.proofs.Tests.{cond_yes, cond_no, le_or_lt}
 use Rattle.matrices.specs.Matrices.{Matrix}
 use Rattle.matrices.specs.Tables.{table, entry}
 use Rattle.matrices.proofs.Tables.{TableTo, row_within, length-table, entry-table, table_of}
+use Rattle.lova.specs.declared.Profile.{Profile}
 use Rattle.lova.specs.Fold.{beside}
 use Rattle.lova.proofs.Blocks.{beside-left, beside-right}
+use Rattle.joins.specs.Columns.{column_of, halves}
+
+-- the two halves of a row of [X Y], where the columns of Y are spread
+module _ {A : Type 0} (f : Profile) (t : ℕ) (X Y : ℕ → ℕ → A) (i j : ℕ) where
+  pub halves_first : j < t → X i j ≡ halves f t X Y i (0 + j)
+  halves_first h = let e : 0 + j ≡ j = omega arith in rw e (sym (cond_yes (ltb j t) (X i j) (Y i (column_of f (j - t))) (lt→ltb j t h)))
+
+  pub halves-second : Y i (column_of f j) ≡ halves f t X Y i (t + j)
+  halves-second =
+      let e : t + j - t ≡ j = omega arith in
+      sym (cond_no (ltb (t + j) t) (X i (t + j)) (Y i (column_of f (t + j - t))) (le→nltb (t + j) t (omega arith)) ∙ ap (λ (x : ℕ). Y i (column_of f x)) e)
 
 -- the two halves of a row of [X Y]
 module _ (t : ℕ) (X Y : Matrix) (i j : ℕ) where

@@ -1,5 +1,5 @@
 -- The right half of a joined matrix: the columns of the second part, or its one column t times.
-use Rattle.std.specs.Prelude.{ℕ}
+use Rattle.std.specs.Prelude.{ℕ, ◌-◌, cond, ltb}
 use Rattle.matrices.specs.Matrices.{Matrix}
 use Rattle.lova.specs.declared.Profile.{Profile}
 use Rattle.lova.specs.declared.Profile.TheVariants.{General, Fresh}
@@ -16,3 +16,7 @@ spread f X i j = X i (column_of f j)
 -- and with its rows so as well
 abbrev pub spread_both : Profile → Matrix → Matrix
 spread_both f X i j = X (column_of f i) (column_of f j)
+
+-- [X Y], where X has t columns and those of Y are spread
+abbrev pub halves : {A : Type 0} → Profile → ℕ → (ℕ → ℕ → A) → (ℕ → ℕ → A) → ℕ → ℕ → A
+halves f t X Y i j = cond (ltb j t) (X i j) (Y i (column_of f (j - t)))

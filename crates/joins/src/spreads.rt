@@ -1,5 +1,5 @@
 // The right half of a row of a joined matrix: a row of the second part, or its one element again and again.
-ghost use Rattle.std.specs.Prelude.{◌≡◌, pos, length, get_or};
+ghost use Rattle.std.specs.Prelude.{◌≡◌, length, get_or};
 ghost use Rattle.integers.specs.Lists.{build};
 ghost use Rattle.lova.specs.Stored.{right_for};
 ghost use Rattle.joins.specs.Columns.{column_of};
@@ -16,56 +16,18 @@ pub(crate) fn column_of(profile: Profile, j: usize) -> usize
     }
 }
 
-// Writes x to every place of out.
-fn fill_words(x: u64, out: &mut [u64])
-    ensures { out.new ≡ build (length out.old) (λ j. x) }
-{
-    let mut i: usize = 0;
-    while i < out.len() {
-        out[i] = x;
-        i += 1;
-    }
-}
-
-// The same for signed words.
-fn fill_wholes(x: i64, out: &mut [i64])
-    ensures { out.new ≡ build (length out.old) (λ j. x) }
-{
-    let mut i: usize = 0;
-    while i < out.len() {
-        out[i] = x;
-        i += 1;
-    }
-}
-
-// Spreads a row of words over out: a row of a general call is as long as out, that of a fresh one is one word.
-pub(crate) fn spread_words(profile: Profile, row: &[u64], out: &mut [u64])
+// Spreads a row over out: a row of a general call is as long as out, that of a fresh one is one element.
+pub(crate) fn spread<T: Copy>(profile: Profile, row: &[T], out: &mut [T])
     requires { length row.now ≡ right_for (length out.old) profile }
-    ensures { out.new
-        ≡ build (length out.old) (λ j. get_or row.now (column_of profile j) 0) }
+    ensures { (d : T) → out.new ≡ build (length out.old) (λ j. get_or row.now (column_of profile j) d) }
 {
     match profile {
-        Profile::General => {
-            copies::copy_words(row, out);
-        }
+        Profile::General => copies::copy(row, out),
         Profile::Fresh => {
-            fill_words(row[0], out);
-        }
-    }
-}
-
-// The same for signed words.
-pub(crate) fn spread_wholes(profile: Profile, row: &[i64], out: &mut [i64])
-    requires { length row.now ≡ right_for (length out.old) profile }
-    ensures { out.new
-        ≡ build (length out.old) (λ j. get_or row.now (column_of profile j) (pos 0)) }
-{
-    match profile {
-        Profile::General => {
-            copies::copy_wholes(row, out);
-        }
-        Profile::Fresh => {
-            fill_wholes(row[0], out);
+            // A loop, as `fill` asks more of T: that no clone of it fails.
+            for place in out.iter_mut() {
+                *place = row[0];
+            }
         }
     }
 }

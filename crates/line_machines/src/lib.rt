@@ -9,6 +9,7 @@ ghost use Rattle.line_machines.specs.Cuts.{cut_to, cut_of, CutWithin};
 pub const LONGEST_LINE: usize = 4095;
 
 // How far a chunk was read: how many bytes of it, how long the line is so far, and whether the line has ended.
+// No enum, since both lengths are wanted in either case, and would stand in each variant.
 #[derive(Clone, Copy)]
 pub struct Cut {
     pub used: usize,
@@ -24,30 +25,27 @@ pub fn cut_line(chunk: &[u8], line: &mut [u8], from: usize) -> Cut
     ensures cut_within { CutWithin result (length chunk.now) }
 {
     let mut length = from;
-    let mut used: usize = 0;
-    while used < chunk.len() {
-        let byte = chunk[used];
-        used += 1;
-        if byte == 10 {
+    for (i, byte) in chunk.iter().enumerate() {
+        if *byte == b'\n' {
             return Cut {
-                used: used,
-                length: length,
+                used: i + 1,
+                length,
                 ended: true,
             };
         }
-        line[length] = byte;
+        line[length] = *byte;
         length += 1;
         if LONGEST_LINE < length {
             return Cut {
-                used: used,
-                length: length,
+                used: i + 1,
+                length,
                 ended: true,
             };
         }
     }
     Cut {
-        used: used,
-        length: length,
+        used: chunk.len(),
+        length,
         ended: false,
     }
 }

@@ -1,253 +1,144 @@
-// The chain file of a load, written block by block into a lent buffer. What is still to be printed goes by value.
+// The chain file of a load, written block by block into a lent buffer.
 #![tactic(auto)]
 
-ghost use Rattle.std.specs.Prelude.{◌≡◌, true, not, [], ◌++◌, ◌+◌, ◌≤◌, length, take};
-ghost use Rattle.settings.specs.Settings.{parameters_of};
-ghost use Rattle.lova.specs.Calls.{Rebuilt};
-ghost use Rattle.chain.specs.Limits.{small, program_limits};
+ghost use Rattle.std.specs.Prelude.{◌≡◌, not, [], ◌++◌, ◌+◌, ◌≤◌, length, take};
+ghost use Rattle.settings.specs.Accepted.{parameters_in};
 ghost use Rattle.chain.specs.Reports.{refused_line};
-ghost use Rattle.loads.specs.Files.{chain_file};
-ghost use Rattle.load_texts.specs.Texts.{longest_text};
-ghost use Rattle.load_files.specs.Pending.{to_come, is_over, leaf_due, SoundFor, Sound, next, Puts};
-ghost use Rattle.load_files.specs.declared.Due.TheVariants as Dues;
+ghost use Rattle.loads.specs.Files.{pairs_text, chain_file};
+ghost use Rattle.load_texts.specs.Texts.{parameters_for, longest_text};
+ghost use Rattle.load_files.specs.Pending.{to_come, is_over, Puts};
 
-use settings::Setting;
+use chain::SmallSetting;
+use load_texts::LoadSetting;
 
-// The line that is due: a refusal's, with the number of the input line and its own, or one of the file.
+// What is left of a load: the setting that it is drawn for, how many pairs of a leaf and a challenge come after the
+// line that is due and after its own pair, and the state from which the next entries are drawn.
 #[derive(Clone, Copy)]
-pub enum Due {
-    Refusal(u64, u8),
-    Param,
-    Matrix,
-    First,
-    Leaf,
-    Challenge,
-    Nothing,
-}
-
-// What is still to be printed: the line that is due, the setting with its radius, how many pairs of a leaf and a
-// challenge are left, and the state from which it is drawn.
-#[derive(Clone, Copy)]
-pub struct Pending {
-    pub due: Due,
-    pub setting: Setting,
-    pub radius: u64,
+pub struct Load {
+    pub setting: LoadSetting,
     pub left: u64,
     pub state: u64,
 }
 
-// What is still to be printed, and how many bytes of it stand at the buffer's start.
+// What is still to be printed, by the line that is due.
 #[derive(Clone, Copy)]
-pub struct Filled {
-    pub pending: Pending,
-    pub length: usize,
+pub enum Pending {
+    // A refusal, which is printed alone: the number of the input line, and its own.
+    Refusal { line: u64, number: u8 },
+    Param(Load),
+    Matrix(Load),
+    // The leaf that no challenge comes after.
+    First(Load),
+    Leaf(Load),
+    Challenge(Load),
+    Nothing,
 }
 
 // A buffer that has room for the longest line of a file is long enough for any.
 const LONGEST: usize = 2690;
 
-// What is still to be printed, and the place past a line that was written.
-#[derive(Clone, Copy)]
-struct Line {
-    pending: Pending,
-    at: usize,
-}
-
-// The line that is due with so many pairs left.
-fn leaf_due(left: u64) -> Due
-    ensures { result ≡ leaf_due left }
-{
-    if left == 0 { Due::Nothing } else { Due::Leaf }
+impl Load {
+    // What is due after a pair: the leaf of the next, or nothing where none is left.
+    #[tactic(auto, unfolding(crate::specs::Pending::to_come, loads::specs::Files::pairs_text))]
+    fn next_pair(self) -> Pending
+        ensures { to_come result ≡ pairs_text (parameters_for self.setting) self.left self.state }
+    {
+        if self.left == 0 {
+            return Pending::Nothing;
+        }
+        Pending::Leaf(Load {
+            left: self.left - 1,
+            ..self
+        })
+    }
 }
 
 impl Pending {
     // A refusal, which is printed alone.
-    pub fn refused(line: u64, number: u8) -> Pending
-        ensures sound { Sound result }
-        ensures result_value { to_come result ≡ refused_line line number }
+    // Any number, as before: a `Refusal` would ask more of callers.
+    #[tactic(auto, unfolding(crate::specs::Pending::to_come))]
+    pub fn refused(line: u64, number: u8) -> Self
+        ensures { to_come result ≡ refused_line line number }
     {
-        let none = Setting::new(0, 0, 0, 0, 0);
-        let setting = none.setting;
-        Pending {
-            due: Due::Refusal(line, number),
-            setting: setting,
-            radius: 0,
-            left: 0,
-            state: 0,
-        }
+        Self::Refusal { line, number }
     }
 
     // The whole file of a leaf count and a seed.
-    pub fn file(setting: Setting, count: u64, seed: u64) -> Pending
-        requires rebuilt { Rebuilt setting }
-        requires setting_value { small program_limits (parameters_of setting) ≡ true }
-        requires le_count { 1 ≤ count }
-        ensures sound { Sound result }
-        ensures result_value { to_come result ≡ chain_file (parameters_of setting) count seed }
+    #[tactic(auto, unfolding(crate::specs::Pending::to_come))]
+    pub fn file(small: SmallSetting, count: u64, seed: u64) -> Self
+        requires { 1 ≤ count }
+        ensures { to_come result ≡ chain_file (parameters_in small.accepted) count seed }
     {
-        let m = setting.m;
-        let bound = setting.bound;
-        let radius = draws::radius_of(m as u64, bound);
-        Pending {
-            due: Due::Param,
-            setting: setting,
-            radius: radius,
+        Self::Param(Load {
+            setting: LoadSetting::new(small),
             left: count - 1,
             state: seed,
-        }
+        })
     }
 
     // Whether a line is due.
-    fn is_due(self) -> bool
-        ensures { result ≡ not (is_over self.due) }
+    #[tactic(auto, unfolding(crate::specs::Pending::is_over))]
+    fn is_due(&self) -> bool
+        ensures { result ≡ not (is_over self.now) }
     {
-        let due = self.due;
-        match due {
-            Due::Nothing => false,
-            _ => true,
-        }
+        !matches!(self, Pending::Nothing)
     }
 
-    // The same load with another line due, so many pairs left, and this state.
-    fn then(self, due: Due, left: u64, state: u64) -> Pending
-        ensures { result ≡ next self due left state }
-    {
-        let setting = self.setting;
-        Pending {
-            due: due,
-            setting: setting,
-            radius: self.radius,
-            left: left,
-            state: state,
-        }
-    }
-
-    // Each of these writes a line from `at` on, and answers what is still to be printed then.
-    fn put_refusal(self, line: u64, number: u8, out: &mut [u8], at: usize) -> Line
+    // Writes the line that is due from `at` on, and answers the place past it.
+    // The buffer and the place, as in `numeral_writers`: lines are put one after the other into one lent buffer, with
+    // no heap, and a struct of both would only be taken apart by the writers of numerals.
+    #[tactic(auto, unfolding(crate::specs::Pending::is_over))]
+    fn put_line(&mut self, out: &mut [u8], at: usize) -> usize
         requires { at + longest_text ≤ length out.old }
-        ensures { Puts (Dues.Refusal line number) self at result out.old out.new }
+        ensures { Puts self.old self.new at result out.old out.new }
     {
-        let length = closing_reports::put_refused(&mut out[at..], line, number);
-        let pending = self.then(Due::Nothing, 0, 0);
-        Line {
-            pending: pending,
-            at: at + length,
+        match *self {
+            Pending::Refusal { line, number } => {
+                *self = Pending::Nothing;
+                at + closing_reports::put_refused(&mut out[at..], line, number)
+            }
+            Pending::Param(load) => {
+                *self = Pending::Matrix(load);
+                load_texts::put_param(out, at, &load.setting.small.accepted.setting)
+            }
+            Pending::Matrix(mut load) => {
+                let end = load_texts::put_matrix(out, at, &load.setting, &mut load.state);
+                *self = Pending::First(load);
+                end
+            }
+            Pending::First(mut load) => {
+                let end = load_texts::put_witness(out, at, &load.setting, &mut load.state);
+                *self = load.next_pair();
+                end
+            }
+            Pending::Leaf(mut load) => {
+                let end = load_texts::put_witness(out, at, &load.setting, &mut load.state);
+                *self = Pending::Challenge(load);
+                end
+            }
+            Pending::Challenge(mut load) => {
+                let end = load_texts::put_challenge(out, at, &load.setting, &mut load.state);
+                *self = load.next_pair();
+                end
+            }
+            Pending::Nothing => at,
         }
     }
 
-    fn put_param(self, out: &mut [u8], at: usize) -> Line
-        requires sound_for { SoundFor Dues.Param self }
-        requires longest_text_in_bounds { at + longest_text ≤ length out.old }
-        ensures { Puts Dues.Param self at result out.old out.new }
-    {
-        let setting = self.setting;
-        let end = load_texts::put_param(out, at, setting);
-        let pending = self.then(Due::Matrix, self.left, self.state);
-        Line {
-            pending: pending,
-            at: end,
-        }
-    }
-
-    fn put_matrix(self, out: &mut [u8], at: usize) -> Line
-        requires sound_for { SoundFor Dues.Matrix self }
-        requires longest_text_in_bounds { at + longest_text ≤ length out.old }
-        ensures { Puts Dues.Matrix self at result out.old out.new }
-    {
-        let setting = self.setting;
-        let written = load_texts::put_matrix(out, at, setting, self.radius, self.state);
-        let pending = self.then(Due::First, self.left, written.state);
-        Line {
-            pending: pending,
-            at: written.at,
-        }
-    }
-
-    fn put_first(self, out: &mut [u8], at: usize) -> Line
-        requires sound_for { SoundFor Dues.First self }
-        requires longest_text_in_bounds { at + longest_text ≤ length out.old }
-        ensures { Puts Dues.First self at result out.old out.new }
-    {
-        let setting = self.setting;
-        let written = load_texts::put_witness(out, at, setting, self.radius, self.state);
-        let pending = self.then(leaf_due(self.left), self.left, written.state);
-        Line {
-            pending: pending,
-            at: written.at,
-        }
-    }
-
-    fn put_leaf(self, out: &mut [u8], at: usize) -> Line
-        requires sound_for { SoundFor Dues.Leaf self }
-        requires longest_text_in_bounds { at + longest_text ≤ length out.old }
-        ensures { Puts Dues.Leaf self at result out.old out.new }
-    {
-        let setting = self.setting;
-        let written = load_texts::put_witness(out, at, setting, self.radius, self.state);
-        let pending = self.then(Due::Challenge, self.left, written.state);
-        Line {
-            pending: pending,
-            at: written.at,
-        }
-    }
-
-    fn put_challenge(self, out: &mut [u8], at: usize) -> Line
-        requires sound_for { SoundFor Dues.Challenge self }
-        requires longest_text_in_bounds { at + longest_text ≤ length out.old }
-        ensures { Puts Dues.Challenge self at result out.old out.new }
-    {
-        let setting = self.setting;
-        let left = self.left - 1;
-        let written = load_texts::put_challenge(out, at, setting, self.radius, self.state);
-        let pending = self.then(leaf_due(left), left, written.state);
-        Line {
-            pending: pending,
-            at: written.at,
-        }
-    }
-
-    // The line that is due.
-    fn put_line(self, out: &mut [u8], at: usize) -> Line
-        requires sound { Sound self }
-        requires longest_text_in_bounds { at + longest_text ≤ length out.old }
-        ensures { Puts self.due self at result out.old out.new }
-    {
-        let due = self.due;
-        match due {
-            Due::Refusal(line, number) => self.put_refusal(line, number, out, at),
-            Due::Param => self.put_param(out, at),
-            Due::Matrix => self.put_matrix(out, at),
-            Due::First => self.put_first(out, at),
-            Due::Leaf => self.put_leaf(out, at),
-            Due::Challenge => self.put_challenge(out, at),
-            Due::Nothing => Line {
-                pending: self,
-                at: at,
-            },
-        }
-    }
-
-    // Writes lines to the buffer's start while one is due and there is room for the longest.
-    pub fn fill(self, out: &mut [u8]) -> Filled
-        requires sound { Sound self }
-        requires longest_text_in_bounds { longest_text ≤ length out.old }
-        ensures pending_after { take result.length out.new ++ to_come result.pending ≡ to_come self }
-        ensures sound_2 { Sound result.pending }
-        ensures length_in_bounds { result.length ≤ length out.new }
-        ensures self_value { result.length ≡ 0 → to_come self ≡ [] }
+    // Writes lines to the buffer's start while one is due and there is room for the longest, and answers the place past
+    // them.
+    #[tactic(auto, using(crate::proofs::Telling::none_filled))]
+    pub fn fill(&mut self, out: &mut [u8]) -> usize
+        requires { longest_text ≤ length out.old }
+        ensures pending_after { take result out.new ++ to_come self.new ≡ to_come self.old }
+        ensures length_in_bounds { result ≤ length out.new }
+        ensures self_value { result ≡ 0 → to_come self.old ≡ [] }
     {
         let most = out.len() - LONGEST;
-        let mut pending = self;
         let mut at: usize = 0;
-        while at <= most && pending.is_due() {
-            let line = pending.put_line(out, at);
-            let next = line.pending;
-            pending = next;
-            at = line.at;
+        while at <= most && self.is_due() {
+            at = self.put_line(out, at);
         }
-        Filled {
-            pending: pending,
-            length: at,
-        }
+        at
     }
 }

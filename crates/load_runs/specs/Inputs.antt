@@ -1,11 +1,10 @@
 -- The lines of an input, as they are read.
-use Rattle.std.specs.Prelude.{cond, List, [], ℕ, ◌+◌, ◌*◌, get_or}
-use Rattle.std.proofs.Math.Option.{Option, some, none}
+use Rattle.std.specs.Prelude.{◌≡◌, ◌⊎◌, true, false, cond, List, [], ℕ, ◌+◌, ◌*◌, ◌≤◌, ◌<◌, length, get_or, Option, Some, None}
 use Rattle.integers.specs.Ranges.{◌to◌, within}
 use Rattle.line_machines.specs.Machines.{longest_line, bytewise}
+use Rattle.line_machines.specs.Cuts.{cut_to, cut_of}
+use Rattle.line_machines.specs.declared.Cut.{Cut}
 use Rattle.loads.specs.Loads.{Stage, most_loaded, load_machine}
-use Rattle.load_runs.specs.declared.records.Asked.{Asked}
-use Rattle.load_runs.specs.declared.records.Asked.TheVariants as Asks
 
 -- two lines and one byte: so much of an input decides what is printed
 abbrev pub enough_bytes : ℕ
@@ -15,7 +14,18 @@ enough_bytes = 2 * (longest_line + 1) + 1
 abbrev pub printed_from : ℕ → Stage → List ℕ → List ℕ
 printed_from line stage bytes = bytewise load_machine (record { state = record { line = line; stage = stage }; pending = [] }) bytes
 
+-- no whole line stands first: none has ended, or it is too long
+abbrev pub NoLine : List ℕ → Type 0
+NoLine bytes = ((cut_of [] bytes).ended ≡ false) ⊎ (longest_line < length (cut_of [] bytes).pending)
+
+-- this line stands first
+pub record FirstLine (bytes text : List ℕ) (cut : Cut) : Type 0 where
+  pub is : cut_to cut.used text true ≡ cut_of [] bytes
+  pub short : length text ≤ longest_line
+  pub within : cut.length ≤ longest_line
+  pub used : cut.used ≤ length bytes
+
 -- what a `load` record asks for: a leaf count within 1..1000, and a seed
-unfoldable pub asked_of : Option (List ℕ) → Asked
-asked_of none = Asks.Bad
-asked_of (some xs) = cond (within (1 to most_loaded) (get_or xs 0 0)) (Asks.Load (get_or xs 0 0) (get_or xs 1 0)) Asks.Bad
+unfoldable pub asked_of : Option (List ℕ) → Option (ℕ × ℕ)
+asked_of None = None
+asked_of (Some xs) = cond (within (1 to most_loaded) (get_or xs 0 0)) (Some (get_or xs 0 0, get_or xs 1 0)) None

@@ -2,119 +2,106 @@
 // reads and writes is the library's part; what is done with the bytes is proved.
 #![tactic(auto)]
 
-ghost use Rattle.std.specs.Prelude.{◌≡◌, true, ◌≤◌, length};
-ghost use Rattle.settings.specs.Settings.{parameters_of};
-ghost use Rattle.lova.specs.Calls.{Rebuilt};
-ghost use Rattle.chain.specs.Limits.{small, program_limits};
+ghost use Rattle.std.specs.Prelude.{◌≡◌, ◌+◌, ◌≤◌, length, take, MatchOption};
+ghost use Rattle.settings.specs.Accepted.{parameters_in};
+ghost use Rattle.line_machines.specs.Machines.{longest_line};
+ghost use Rattle.chain.specs.Reports.{refused_line};
 ghost use Rattle.loads.specs.Loads.{load, load_program};
-ghost use Rattle.load_files.specs.Pending.{to_come, Sound};
-ghost use Rattle.load_runs.specs.Inputs.{enough_bytes, printed_from};
+ghost use Rattle.load_files.specs.Pending.{to_come};
+ghost use Rattle.load_runs.specs.Inputs.{enough_bytes, printed_from, NoLine, FirstLine};
 ghost use Rattle.load_runs.specs.Runs.{RanOn};
 
 mod printing;
 mod records;
 
+use chain::SmallSetting;
+use line_machines::{Cut, LONGEST_LINE};
 use load_files::Pending;
-use records::Asked;
-use settings::Setting;
+use settings::Refusal;
 use std::io::Read;
 
-// How a run ended: all was printed, the input could not be read, or standard output not be written.
-#[derive(Clone, Copy)]
-pub enum Ending {
-    Whole,
+// Why a run ended before all was printed: the input could not be read, or standard output not be written.
+#[derive(Clone, Copy, PartialEq, Eq, Debug)]
+pub enum Failure {
     Unread,
     Unwritten,
 }
 
-// How a run ended, how many bytes it read into the buffer, and what it has left to be printed.
+// How a run ended, how many bytes it read into the buffer, and what it has left to be printed. They are no Result: what
+// was read and what is left count where a run failed too.
 #[derive(Clone, Copy)]
 pub struct Ran {
-    pub ending: Ending,
+    pub ending: Result<(), Failure>,
     pub read: usize,
     pub rest: Pending,
 }
 
-// What was read: how many bytes, and whether a read failed.
-#[derive(Clone, Copy)]
-struct Input {
-    pub length: usize,
-    pub failed: bool,
+// The refusal of an input line that is none that is due.
+fn bad_line(line: u64) -> Pending
+    ensures { to_come result ≡ refused_line line 13 }
+{
+    Pending::refused(line, Refusal::BadLine.number())
+}
+
+// Cuts the first line of some bytes into the buffer, where it has ended and is not too long.
+fn first_line(bytes: &[u8], line: &mut [u8]) -> Option<Cut>
+    requires { length line.old ≡ longest_line + 1 }
+    ensures { MatchOption result (NoLine bytes.now)
+        (λ cut. FirstLine bytes.now (take cut.length line.new) cut) }
+{
+    let cut = line_machines::cut_line(bytes, line, 0);
+    if !cut.ended || LONGEST_LINE < cut.length {
+        return None;
+    }
+    Some(cut)
 }
 
 // What is printed for the bytes after the `param` line.
-fn load_after(setting: Setting, bytes: &[u8]) -> Pending
-    requires { Rebuilt setting × (small program_limits (parameters_of setting) ≡ true) }
-    ensures result_value { to_come result ≡ printed_from 1 (load (parameters_of setting)) bytes.now }
-    ensures sound { Sound result }
+fn load_after(small: SmallSetting, bytes: &[u8]) -> Pending
+    ensures { to_come result ≡ printed_from 1 (load (parameters_in small.accepted)) bytes.now }
 {
     let mut line = [0u8; 4096];
-    let cut = line_machines::cut_line(bytes, &mut line, 0);
-    let length = cut.length;
-    if !cut.ended {
-        return Pending::refused(2, 13);
+    let Some(cut) = first_line(bytes, &mut line) else {
+        return bad_line(2);
+    };
+    let Some((count, seed)) = records::read_load(&line[..cut.length]) else {
+        return bad_line(2);
+    };
+    if cut.used < bytes.len() {
+        return bad_line(3);
     }
-    if line_machines::LONGEST_LINE < length {
-        return Pending::refused(2, 13);
-    }
-    let asked = records::read_load(&line[..length]);
-    match asked {
-        Asked::Bad => Pending::refused(2, 13),
-        Asked::Load(count, seed) => {
-            if cut.used < bytes.len() {
-                return Pending::refused(3, 13);
-            }
-            Pending::file(setting, count, seed)
-        }
-    }
+    Pending::file(small, count, seed)
 }
 
 // What is printed for an input: the chain file of the load that it asks for, or one line that refuses it.
 pub fn load_of(input: &[u8]) -> Pending
-    ensures result_value { to_come result ≡ load_program input.now }
-    ensures sound { Sound result }
+    ensures { to_come result ≡ load_program input.now }
 {
     let mut line = [0u8; 4096];
-    let cut = line_machines::cut_line(input, &mut line, 0);
-    let length = cut.length;
-    if !cut.ended {
-        return Pending::refused(1, 13);
+    let Some(cut) = first_line(input, &mut line) else {
+        return bad_line(1);
+    };
+    match param_lines::read_setting(&line[..cut.length]) {
+        Ok(small) => load_after(small, &input[cut.used..]),
+        Err(refusal) => Pending::refused(1, refusal.number()),
     }
-    if line_machines::LONGEST_LINE < length {
-        return Pending::refused(1, 13);
-    }
-    let opened = param_lines::read_setting(&line[..length]);
-    let number = opened.refusal;
-    if number != 0 {
-        return Pending::refused(1, number);
-    }
-    let used = cut.used;
-    let setting = opened.setting;
-    load_after(setting, &input[used..])
 }
 
 // Reads up to the end of the input, or until the buffer is full: as many bytes as two lines have, and one more, decide
-// what is printed.
-fn read_input<R: Read>(reader: &mut R, input: &mut [u8]) -> Input
-    ensures { result.length ≤ length input.new }
+// what is printed. Answers how many bytes stand in the buffer, which are some where a read failed too.
+fn read_input<R: Read>(reader: &mut R, input: &mut [u8]) -> (usize, Result<(), Failure>)
+    ensures { result.0 ≤ length input.new }
 {
     let mut length: usize = 0;
+    // By an index: each read says itself how far it filled the buffer.
     while length < input.len() {
-        let got = reader.read(&mut input[length..]);
-        let failed = got.is_err();
-        let n = got.unwrap_or(0);
-        if n == 0 {
-            return Input {
-                length: length,
-                failed: failed,
-            };
+        match reader.read(&mut input[length..]) {
+            Ok(0) => break,
+            Ok(n) => length += n,
+            Err(_) => return (length, Err(Failure::Unread)),
         }
-        length += n;
     }
-    Input {
-        length: length,
-        failed: false,
-    }
+    (length, Ok(()))
 }
 
 // Runs the load program on what a reader gives; the buffer has room for two lines and one byte more.
@@ -122,23 +109,16 @@ pub fn run<R: Read>(rt: &(impl Print + Eprint), reader: &mut R, input: &mut [u8]
     requires { enough_bytes ≤ length input.old }
     ensures { RanOn result input.new }
 {
-    let got = read_input(reader, input);
-    let length = got.length;
-    let pending = load_of(&input[..length]);
-    if got.failed {
+    let (read, reading) = read_input(reader, input);
+    let mut rest = load_of(&input[..read]);
+    if let Err(failure) = reading {
         let _ = rt.eprint("the input cannot be read\n");
         return Ran {
-            ending: Ending::Unread,
-            read: length,
-            rest: pending,
+            ending: Err(failure),
+            read,
+            rest,
         };
     }
-    let printed = printing::print_all(rt, pending);
-    let ending = printed.ending;
-    let rest = printed.rest;
-    Ran {
-        ending: ending,
-        read: length,
-        rest: rest,
-    }
+    let ending = printing::print_all(rt, &mut rest);
+    Ran { ending, read, rest }
 }

@@ -3,7 +3,7 @@ use mathlib.Core.Path.{◌≡◌, refl, sym, ◌∙◌, ap}
 use mathlib.Core.List.{List, [], ◌∷◌, ◌++◌, map, append_assoc}
 use Prim.Native.Nat.{ℕ, ◌+◌, ◌*◌, ◌≤◌, ◌<◌}
 use native.Mathlib.Omega.{arith}
-use lib.ListN.{length, take, drop, set}
+use lib.ListN.{length, take, set}
 use lib.Seq.{length-take-le}
 use Rattle.numerals.specs.Bytes.{written}
 use Rattle.numerals.proofs.Buffers.{length-written}
@@ -11,7 +11,6 @@ use Rattle.text.specs.Lines.{tabbed, joined, line_of}
 use Rattle.text.proofs.Lines.{Holds, holds_more, holds_byte}
 use Rattle.draws.specs.Draws.{after, drawn}
 use Rattle.load_texts.specs.Texts.{longest_text}
-use Rattle.load_texts.proofs.Fitting.{back-drawn, back_long}
 
 -- from `at` on the word w is written to d, up to r₁, and a field for each of vs, up to r₂
 module _ {A : Type 0} (show : A → List ℕ) (w : List ℕ) (vs : List A) (d d₁ d₂ : List ℕ) (at r₁ r₂ : ℕ)
@@ -36,28 +35,23 @@ module _ {A : Type 0} (show : A → List ℕ) (w : List ℕ) (vs : List A) (d d�
   with_fields : Holds d₂ r₂ ((take at d ++ w) ++ rest)
   with_fields = holds_more d₁ d₂ (take at d ++ w) rest r₁ r₂ with_word (omega (arith, long₁, word.0, fields.0, fields.2)) fields.0 fields.1
 
-  pub line-put : (take (r₂ + 1) (set d₂ r₂ 10) ≡ take at d ++ line_of (w ∷ map show vs)) × ((at < r₂ + 1) × (r₂ + 1 ≤ at + longest_text))
+  pub line-put : take (r₂ + 1) (set d₂ r₂ 10) ≡ take at d ++ line_of (w ∷ map show vs)
   unfolding line_of joined
-  line-put = (
-    (holds_byte d₂ ((take at d ++ w) ++ rest) r₂ 10 with_fields (omega (arith, long₂, word.0, fields.2))).start
-        ∙ ap (λ (s : List ℕ). s ++ (10 ∷ [])) (append_assoc (take at d) w rest)
-        ∙ append_assoc (take at d) (w ++ rest) (10 ∷ []),
-    (omega (arith, word.0, fields.0), omega (arith, word.0, fields.2)),
-  )
+  line-put =
+      (holds_byte d₂ ((take at d ++ w) ++ rest) r₂ 10 with_fields (omega (arith, long₂, word.0, fields.2))).start
+      ∙ ap (λ (s : List ℕ). s ++ (10 ∷ [])) (append_assoc (take at d) w rest)
+      ∙ append_assoc (take at d) (w ++ rest) (10 ∷ [])
 
--- the same where vs is the beginning of an array xs, which came back filled with k entries that are drawn from the state s on
-module _ {A : Type 0} (show : A → List ℕ) (entry : ℕ → A) (w : List ℕ) (k s state : ℕ) (xs ys : List A) (d d₁ d₂ : List ℕ) (at r₁ r₂ : ℕ)
-    (h : k ≤ length xs) (kept : length ys ≡ length (take k xs))
-    (made : (ys ≡ drawn entry (length (take k xs)) s) × (state ≡ after (length (take k xs)) s))
+-- the same where vs are as many entries as were lent, drawn from the state s on
+module _ {A : Type 0} (show : A → List ℕ) (entry : ℕ → A) (w : List ℕ) (k n s state : ℕ) (vs : List A) (d d₁ d₂ : List ℕ) (at r₁ r₂ : ℕ)
+    (lent : k ≡ n) (kept : length vs ≡ n) (made : (vs ≡ drawn entry n s) × (state ≡ after n s))
     (room : at + longest_text ≤ length d) (short : length w + 21 * k < longest_text) where
-  abbrev filled : List A
-  filled = take k (ys ++ drop k xs)
-
   pub drawn-put : (entries : List A) (end : ℕ) → drawn entry k s ≡ entries → after k s ≡ end
       → (r₁ ≡ at + length w) × (d₁ ≡ written d at w)
-      → (r₂ ≡ r₁ + length (tabbed (map show filled))) × (d₂ ≡ written d₁ r₁ (tabbed (map show filled))) × (r₂ ≤ r₁ + 21 * length filled)
-      → ((take (r₂ + 1) (set d₂ r₂ 10) ≡ take at d ++ line_of (w ∷ map show entries)) × (state ≡ end)) × ((at < r₂ + 1) × (r₂ + 1 ≤ at + longest_text))
-  drawn-put entries end are ends word fields =
-      let b = back-drawn k xs ys h kept entry s state made in
-      let l = line-put show w filled d d₁ d₂ at r₁ r₂ room (omega (arith, short, back_long k xs ys h kept)) word fields in
-      ((l.0 ∙ ap (λ (vs : List A). take at d ++ line_of (w ∷ map show vs)) (b.0 ∙ are), b.1 ∙ ends), l.1)
+      → (r₂ ≡ r₁ + length (tabbed (map show vs))) × (d₂ ≡ written d₁ r₁ (tabbed (map show vs))) × (r₂ ≤ r₁ + 21 * length vs)
+      → (take (r₂ + 1) (set d₂ r₂ 10) ≡ take at d ++ line_of (w ∷ map show entries)) × (state ≡ end)
+  drawn-put entries end are ends word fields = (
+    line-put show w vs d d₁ d₂ at r₁ r₂ room (omega (arith, short, lent, kept)) word fields
+        ∙ ap (λ (xs : List A). take at d ++ line_of (w ∷ map show xs)) (made.0 ∙ ap (λ (m : ℕ). drawn entry m s) (sym lent) ∙ are),
+    made.1 ∙ ap (λ (m : ℕ). after m s) (sym lent) ∙ ends,
+  )

@@ -4,7 +4,8 @@ use mathlib.Core.Path.{◌≡◌, refl, sym, ◌∙◌, ap, subst}
 use mathlib.Core.Logic.{◌⊎◌, inl, inr}
 use mathlib.Core.Bool.{Bool, true, false, cond, ◌&&◌}
 use mathlib.Core.List.{List, [], ◌∷◌, ◌++◌, map}
-use mathlib.Core.Option.{Option, some, none, none-ne-some, some-injective}
+use Rattle.std.specs.Prelude.{Option, Some, None}
+use Rattle.std.proofs.lemmas.Option.{none-some}
 use Prim.Native.Nat.{ℕ, zero, suc, ◌^◌, ◌≤◌, ◌<◌}
 use native.Mathlib.Omega.{arith}
 use lib.Dec.{T, leb, ltb, leb→le}
@@ -15,8 +16,7 @@ use Rattle.integers.proofs.Tests.{and_fst, and_snd}
 use Rattle.integers.specs.Ranges.{◌to◌, within}
 use Rattle.settings.specs.Rules.{first_of}
 use Rattle.settings.specs.Settings.{Parameters}
-use Rattle.numerals.specs.Numerals.{natural, fit_unsigned, read_unsigned, unsigned_of, decimal}
-use Rattle.numerals.specs.declared.ParsedU64.TheVariants as Unsigned
+use Rattle.numerals.specs.Numerals.{natural, fit_unsigned, read_unsigned, decimal}
 use Rattle.text.specs.Fields.{record_of, read_u64}
 use Rattle.text.specs.Lines.{joined, line_of}
 use Rattle.text.proofs.Records.{record_each, each_at, u64s_only}
@@ -50,17 +50,17 @@ Refuses n s = (number : ℕ) × (s ≡ refuse n number)
 -- ---- the numbers of a record
 
 -- a number that is read has 64 bits
-read_word : (f : List ℕ) (v : ℕ) → read_u64 f ≡ some v → v < 2 ^ 64
-unfolding read_u64 read_unsigned fit_unsigned unsigned_of
+read_word : (f : List ℕ) (v : ℕ) → read_u64 f ≡ Some v → v < 2 ^ 64
+unfolding read_unsigned fit_unsigned
 read_word f v e = go (natural f) e
   where
-    by : (n : ℕ) (c : Bool) → ltb n (2 ^ 64) ≡ c → unsigned_of (cond c (Unsigned.Number n) Unsigned.Bad) ≡ some v → v < 2 ^ 64
-    by n true q h = subst (λ (x : ℕ). x < 2 ^ 64) (some-injective _ _ h) (ltb-true n (2 ^ 64) q)
-    by n false q h = absurd (none-ne-some v h)
+    by : (n : ℕ) (c : Bool) → ltb n (2 ^ 64) ≡ c → ◌≡◌ {A = Option ℕ} (cond c (Some n) None) (Some v) → v < 2 ^ 64
+    by n true q h = let same : n ≡ v = grind arith in subst (λ (x : ℕ). x < 2 ^ 64) same (ltb-true n (2 ^ 64) q)
+    by n false q h = absurd (none-some _ h)
 
-    go : (o : Option ℕ) → unsigned_of (fit_unsigned o) ≡ some v → v < 2 ^ 64
-    go none h = absurd (none-ne-some v h)
-    go (some n) h = by n (ltb n (2 ^ 64)) refl h
+    go : (o : Option ℕ) → fit_unsigned o ≡ Some v → v < 2 ^ 64
+    go None h = absurd (none-some _ h)
+    go (Some n) h = by n (ltb n (2 ^ 64)) refl h
 
 -- a list of n numbers by its elements
 elements : (n : ℕ) (xs : List ℕ) → length xs ≡ n → xs ≡ build n (λ i. get_or xs i 0)
@@ -75,7 +75,7 @@ pub record Opened (n : ℕ) (line : List ℕ) (s : Step State) : Type 0 where
   pub reads : line ++ (10 ∷ []) ≡ param_text p
   pub made : s ≡ next n (load p)
 
-param-text : (line xs : List ℕ) → record_of read_u64 param_word 5 line ≡ some xs → line ++ (10 ∷ []) ≡ param_text (from_five xs)
+param-text : (line xs : List ℕ) → record_of read_u64 param_word 5 line ≡ Some xs → line ++ (10 ∷ []) ≡ param_text (from_five xs)
 unfolding param_text line_of build
 param-text line xs e =
     let r = u64s_only param_word 5 line xs e in
@@ -91,8 +91,8 @@ on-param : (n : ℕ) (line : List ℕ) (c : Bool) (o : Option (List ℕ)) → re
     → let s = cond c (on_param n o) (bad_line n param) in Refuses n s ⊎ Opened n line s
 unfolding on_param on_setting param_setting param_refusal bad_line is_stopped
 on-param n line false o e = inl (13, refl)
-on-param n line true none e = inl (13, refl)
-on-param n line true (some xs) e = on-setting n line (from_five xs) (param-text line xs e) (first_of (program_rules (from_five xs))) refl
+on-param n line true None e = inl (13, refl)
+on-param n line true (Some xs) e = on-setting n line (from_five xs) (param-text line xs e) (first_of (program_rules (from_five xs))) refl
 
 pub param_step : (n : ℕ) (line : List ℕ) → let s = line_step load_machine (at n param) line in Refuses n s ⊎ Opened n line s
 unfolding line_step take_due
@@ -106,13 +106,13 @@ pub record Asked (n : ℕ) (p : Parameters) (line : List ℕ) (s : Step State) :
   pub reads : line ++ (10 ∷ []) ≡ load_text count seed
   pub made : s ≡ next n (end p count seed)
 
-load-text : (line xs : List ℕ) → record_of read_u64 load_word 2 line ≡ some xs → line ++ (10 ∷ []) ≡ load_text (get_or xs 0 0) (get_or xs 1 0)
+load-text : (line xs : List ℕ) → record_of read_u64 load_word 2 line ≡ Some xs → line ++ (10 ∷ []) ≡ load_text (get_or xs 0 0) (get_or xs 1 0)
 unfolding line_of build
 load-text line xs e =
     let r = u64s_only load_word 2 line xs e in
     ap (λ (l : List ℕ). l ++ (10 ∷ [])) (r.1 ∙ ap (λ (ys : List ℕ). joined (load_word ∷ map decimal ys)) (elements 2 xs r.0))
 
-on-count : (n : ℕ) (p : Parameters) (line xs : List ℕ) → record_of read_u64 load_word 2 line ≡ some xs → (c : Bool) → within (1 to most_loaded) (get_or xs 0 0) ≡ c
+on-count : (n : ℕ) (p : Parameters) (line xs : List ℕ) → record_of read_u64 load_word 2 line ≡ Some xs → (c : Bool) → within (1 to most_loaded) (get_or xs 0 0) ≡ c
     → let s = cond c (next n (end p (get_or xs 0 0) (get_or xs 1 0))) (refuse n 13) in Refuses n s ⊎ Asked n p line s
 on-count n p line xs e false h = inl (13, refl)
 on-count n p line xs e true h =
@@ -129,8 +129,8 @@ on-load : (n : ℕ) (p : Parameters) (line : List ℕ) (c : Bool) (o : Option (L
     → let s = cond c (on_load n p o) (bad_line n (load p)) in Refuses n s ⊎ Asked n p line s
 unfolding on_load bad_line is_stopped
 on-load n p line false o e = inl (13, refl)
-on-load n p line true none e = inl (13, refl)
-on-load n p line true (some xs) e = on-count n p line xs e (within (1 to most_loaded) (get_or xs 0 0)) refl
+on-load n p line true None e = inl (13, refl)
+on-load n p line true (Some xs) e = on-count n p line xs e (within (1 to most_loaded) (get_or xs 0 0)) refl
 
 pub load_step : (n : ℕ) (p : Parameters) (line : List ℕ) → let s = line_step load_machine (at n (load p)) line in Refuses n s ⊎ Asked n p line s
 unfolding line_step take_due

@@ -3,7 +3,7 @@ use mathlib.Core.Path.{◌≡◌, refl, sym, ◌∙◌, ap, subst}
 use mathlib.Core.Logic.{◌⊎◌, inl, inr}
 use mathlib.Core.Bool.{Bool, true, false, cond}
 use mathlib.Core.List.{List, [], ◌∷◌, ◌++◌, append-nil}
-use mathlib.Core.Option.{Option, some, none}
+use Rattle.std.specs.Prelude.{Option, Some, None}
 use Prim.Native.Nat.{ℕ, zero, suc, ◌+◌, ◌*◌, ◌≤◌, ◌<◌}
 use native.Mathlib.Omega.{arith}
 use borrow.Author.Tests.{le-leb}
@@ -115,8 +115,8 @@ halts_either n false t u h k = k
 
 on-load : (line : ℕ) (p : Parameters) (o : Option (List ℕ)) → HaltsAfter load_machine 0 (on_load line p o).state
 unfolding on_load is_stopped
-on-load line p none = halts_stopped 0 _ refl
-on-load line p (some xs) = halts_either 0 (within (1 to most_loaded) (get_or xs 0 0)) _ _ (third_halts (line + 1) p (get_or xs 0 0) (get_or xs 1 0)) (halts_stopped 0 _ refl)
+on-load line p None = halts_stopped 0 _ refl
+on-load line p (Some xs) = halts_either 0 (within (1 to most_loaded) (get_or xs 0 0)) _ _ (third_halts (line + 1) p (get_or xs 0 0) (get_or xs 1 0)) (halts_stopped 0 _ refl)
 
 -- after `load` every line halts, and after `param` every second one
 after-load : (line : ℕ) (p : Parameters) → HaltsAfter load_machine 1 (record { line = line; stage = load p })

@@ -5,7 +5,7 @@ use Rattle.integers.specs.Lists.{build}
 use Rattle.settings.specs.Rules.{first_of}
 use Rattle.settings.specs.Settings.{greatest, LOf, repunit}
 use Rattle.settings.specs.HouseList.{parameters}
-use Rattle.numerals.specs.Numerals.{is_digit, are_digits, is_plain, value_from, natural_from, natural, fit_unsigned, read_unsigned, unsigned_of, decimal_in, decimal, decimal_Z}
+use Rattle.numerals.specs.Numerals.{is_digit, are_digits, is_plain, value_from, natural_from, natural, fit_unsigned, read_unsigned, decimal_in, decimal, decimal_Z}
 use Rattle.text.specs.Fields.{onto, cut_at, same, push, exactly, after_word, record_of, read_u64}
 use Rattle.text.specs.Lines.{tabbed, joined, line_of, ternary_numeral}
 use Rattle.line_machines.specs.Machines.{line_step, last_output, printed, output_of}
@@ -62,5 +62,5 @@ abbrev empty : Type 0
 empty = load_program [] ≡ (114 ∷ 101 ∷ 102 ∷ 117 ∷ 115 ∷ 101 ∷ 100 ∷ 9 ∷ 49 ∷ 9 ∷ 49 ∷ 51 ∷ 10 ∷ [])
 
 pub examples : seed-one × load_one × greatest-seed × third-line × third_byte × no_leaves × too_many_leaves × load_missing × growth × empty
-unfolding build first_of greatest LOf repunit is_digit are_digits is_plain value_from natural_from natural fit_unsigned read_unsigned unsigned_of decimal_in decimal decimal_Z onto cut_at same push exactly after_word record_of read_u64 tabbed joined line_of ternary_numeral line_step last_output printed output_of small param_setting param_refusal refused_line next after drawn radius_from drawn_A drawn_S drawn_c param_text matrix_text witness_text challenge_text pairs_text chain_file on_setting on_param on_load take_due is_stopped bad_line end_due
+unfolding build first_of greatest LOf repunit is_digit are_digits is_plain value_from natural_from natural fit_unsigned read_unsigned decimal_in decimal decimal_Z onto cut_at same push exactly after_word record_of tabbed joined line_of ternary_numeral line_step last_output printed output_of small param_setting param_refusal refused_line next after drawn radius_from drawn_A drawn_S drawn_c param_text matrix_text witness_text challenge_text pairs_text chain_file on_setting on_param on_load take_due is_stopped bad_line end_due
 examples = (refl, refl, refl, refl, refl, refl, refl, refl, refl, refl)

@@ -2,7 +2,7 @@
 use mathlib.Core.Path.{◌≡◌, refl, sym, subst}
 use mathlib.Core.Bool.{Bool, true, false, cond}
 use mathlib.Core.List.{List, [], ◌∷◌, map}
-use mathlib.Core.Option.{Option, some}
+use Rattle.std.specs.Prelude.{Option, Some}
 use Prim.Native.Nat.{ℕ, ◌+◌, ◌*◌, ◌^◌, ◌≤◌, ◌<◌}
 use native.Mathlib.Omega.{arith}
 use lib.Dec.{eqb}
@@ -29,7 +29,7 @@ use Rattle.loads.proofs.Drawn.{A-fits, A-words, S-fits, S-words, C-fits, C-bytes
 
 -- the line of a word and values, without its line feed: it is read as a record of these values, it is not too long, and it is one line
 pub record ReadBack {A : Type 0} (read : List ℕ → Option A) (show : A → List ℕ) (word : List ℕ) (n : ℕ) (vs : List A) : Type 0 where
-  pub back : record_of read word n (joined (word ∷ map show vs)) ≡ some vs
+  pub back : record_of read word n (joined (word ∷ map show vs)) ≡ Some vs
   pub short : length (joined (word ∷ map show vs)) ≤ longest_line
   pub one : lacks 10 (joined (word ∷ map show vs)) ≡ true
 
@@ -37,9 +37,9 @@ pub record ReadBack {A : Type 0} (read : List ℕ → Option A) (show : A → Li
 module _ {A : Type 0} (read : List ℕ → Option A) (show : A → List ℕ) (P : A → Type 0) (k : ℕ)
     (small : (v : A) → P v → length (show v) ≤ k) (bare : (v : A) → P v → lacks 10 (show v) ≡ true) where
   back_by : (word : List ℕ) (n : ℕ) (vs : List A) → Each P vs → length vs ≡ n → length word + (k + 1) * n ≤ longest_line → lacks 10 word ≡ true
-      → record_of read word (length vs) (joined (word ∷ map show vs)) ≡ some vs → ReadBack read show word n vs
+      → record_of read word (length vs) (joined (word ∷ map show vs)) ≡ Some vs → ReadBack read show word n vs
   back_by word n vs each long room word-one back = record {
-    back = subst (λ (m : ℕ). record_of read word m (joined (word ∷ map show vs)) ≡ some vs) long back;
+    back = subst (λ (m : ℕ). record_of read word m (joined (word ∷ map show vs)) ≡ Some vs) long back;
     short =
         let within : length (joined (word ∷ map show vs)) ≤ length word + (k + 1) * length vs
         = record_length show k word vs (each_holds P (λ v. length (show v) ≤ k) small vs each) in

@@ -1,7 +1,7 @@
 -- The chain program on the file of a load: it takes every line, every fold says yes, and the end is member.
 use mathlib.Core.Path.{◌≡◌, refl, ◌∙◌, ap, ap₂}
 use mathlib.Core.List.{List, [], ◌∷◌, ◌++◌, map}
-use mathlib.Core.Option.{Option, some}
+use Rattle.std.specs.Prelude.{Option, Some}
 use Prim.Native.Nat.{ℕ, zero, suc, ◌+◌, ◌-◌, ◌≤◌}
 use native.Mathlib.Omega.{arith}
 use lib.IntN.{ℤ}
@@ -47,7 +47,7 @@ then_shows rest e = ap (λ (s : Chain.Step). s.output ++ printed chain_machine s
 -- the line of a record that is read back, by the step that its values are due to make
 takes : {A : Type 0} (read : List ℕ → Option A) (show : A → List ℕ) (word : List ℕ) (k : ℕ) (vs : List A) → ReadBack read show word k vs
     → (n : Counts) (due : Stage) (made : Option (List A) → Chain.Step) → ((line : List ℕ) → take_due n due line ≡ made (record_of read word k line))
-    → (rest : List ℕ) → shows n due (line_of (word ∷ map show vs) ++ rest) ≡ (made (some vs)).output ++ printed chain_machine (made (some vs)).state (lines rest)
+    → (rest : List ℕ) → shows n due (line_of (word ∷ map show vs) ++ rest) ≡ (made (Some vs)).output ++ printed chain_machine (made (Some vs)).state (lines rest)
 takes read show word k vs r n due made is rest =
     let fs = word ∷ map show vs in
     line_shown chain_machine chain_stops (record { counts = n; stage = due }) fs rest r.one r.short
@@ -60,7 +60,7 @@ module _ (p : Parameters) (e : first_of (program_rules p) ≡ 0) where
   u = usable p e
 
   -- the setting is accepted
-  on-param : (n : Counts) → on_param n (some (five p)) ≡ Chain.next n (matrix p)
+  on-param : (n : Counts) → on_param n (Some (five p)) ≡ Chain.next n (matrix p)
   unfolding on_param on_setting param_setting param_refusal
   on-param n = rw e refl
 
@@ -83,14 +83,14 @@ module _ (p : Parameters) (e : first_of (program_rules p) ≡ 0) where
 
     -- a leaf is committed to, and its line has its instance
     on-leaf : (n : Counts) (after : Node → Stage) (S : List ℤ) → Proper p (leaf S)
-        → on_leaf n p A after (some S)
+        → on_leaf n p A after (Some S)
         ≡ Chain.step (tally (n.line + 1) (n.leaves + 1) n.folds) (after (tree_node p A (leaf S))) (leaf_line p (n.leaves + 1) (counted (instance_of p A S) 1))
     unfolding on_leaf refusal refuses tree_node left_witness
     on-leaf n after S proper = rw (commit-is p A u.ok size_A S proper) (rw (leaf-instance S proper) refl)
 
     -- a challenge is folded, and its line says yes with the larger tree's instance and leaves
     on-challenge : (n : Counts) (t new : Tree) (C : List ℕ) → Proper p (fold t new C) → leaves_of (fold t new C) ≤ most_leaves
-        → on_challenge n p A (tree_node p A t) (tree_node p A new) (some C)
+        → on_challenge n p A (tree_node p A t) (tree_node p A new) (Some C)
         ≡ Chain.step (tally (n.line + 1) n.leaves (n.folds + 1)) (Chain.leaf p A (tree_node p A (fold t new C)))
         (fold_line p (n.folds + 1) «yes» (counted (instance_of p A (plain p (fold t new C))) (leaves_of (fold t new C))))
     unfolding on_challenge refusal refuses

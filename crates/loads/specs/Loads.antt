@@ -1,6 +1,6 @@
 -- Document 02, request 7: what the load program does with each line.
 use Rattle.std.specs.Prelude.{Bool, true, false, cond, List, [], ◌∷◌, ℕ, zero, suc, ◌+◌, get_or}
-use Rattle.std.proofs.Math.Option.{Option, some, none}
+use Rattle.std.specs.Prelude.{Option, Some, None}
 use Rattle.integers.specs.Ranges.{◌to◌, within}
 use Rattle.settings.specs.Settings.{Parameters}
 use Rattle.text.specs.Fields.{record_of, read_u64}
@@ -55,8 +55,8 @@ on_param line o = on_setting line (param_setting o) (param_refusal o)
 
 -- `load` with the leaf count and the seed: 13, also for a count outside 1..1000
 unfoldable pub on_load : ℕ → Parameters → Option (List ℕ) → Step State
-on_load line p none = refuse line 13
-on_load line p (some xs) = cond (within (1 to most_loaded) (get_or xs 0 0)) (next line (end p (get_or xs 0 0) (get_or xs 1 0))) (refuse line 13)
+on_load line p None = refuse line 13
+on_load line p (Some xs) = cond (within (1 to most_loaded) (get_or xs 0 0)) (next line (end p (get_or xs 0 0) (get_or xs 1 0))) (refuse line 13)
 
 -- a line by what is due; a third line is refused with 13
 unfoldable pub take_due : ℕ → Stage → List ℕ → Step State

@@ -1,45 +1,46 @@
-// The answers of the operations of a fold, and their profiles.
+// What the operations of a fold are lent and answer, and their profiles.
 #![tactic(auto)]
 
 ghost use Rattle.std.specs.Prelude.{◌≡◌};
 ghost use Rattle.lova.specs.Stored.{right_for, copies_for};
 
-// Of message, folded witness and recomposition.
-#[derive(Clone, Copy)]
-pub enum Answer {
-    Done,
-    Refused(u8),
-}
-
-// Of commit and join: done with the number of leaves under the instance made.
-#[derive(Clone, Copy)]
-pub enum Made {
-    Done(u32),
-    Refused(u8),
-}
-
-// Of the verdict: yes with the number of leaves under the folded instance.
-#[derive(Clone, Copy)]
+// Of the verdict: yes with the number of leaves under the folded instance. A refused call has none.
+#[derive(Clone, Copy, PartialEq, Eq, Debug)]
 pub enum Verdict {
     Yes(u32),
     Long,
     Norm,
     Commitment,
-    Refused(u8),
 }
 
 // Of the relation test.
-#[derive(Clone, Copy)]
+#[derive(Clone, Copy, PartialEq, Eq, Debug)]
 pub enum Membership {
     Member,
     Long,
     Products,
     Commitment,
-    Refused(u8),
 }
 
-// The profile of a call: the second witness has t columns, or it is one vector that stands for t equal columns.
+// An instance as it is lent: T and D, and the number of leaves under it.
 #[derive(Clone, Copy)]
+pub struct Instance<'a> {
+    pub t: &'a [u64],
+    pub d: &'a [i64],
+    pub leaves: u32,
+}
+
+// A message as it is lent: V, T~ and D~.
+#[derive(Clone, Copy)]
+pub struct Message<'a> {
+    pub v: &'a [i64],
+    pub tt: &'a [u64],
+    pub dd: &'a [i64],
+}
+
+// The profile of a call: the second witness has t columns, or it is one vector that stands for t equal columns. It goes
+// beside the setting, and no struct holds both: the definitions take the two, and each clause would take it apart.
+#[derive(Clone, Copy, PartialEq, Eq, Debug)]
 pub enum Profile {
     General,
     Fresh,
@@ -50,8 +51,7 @@ impl Profile {
     pub fn right(self, t: usize) -> usize
         ensures { result ≡ right_for t self }
     {
-        let profile = self;
-        match profile {
+        match self {
             Profile::General => t,
             Profile::Fresh => 1,
         }
@@ -61,8 +61,7 @@ impl Profile {
     pub fn copies(self, t: usize) -> usize
         ensures { result ≡ copies_for t self }
     {
-        let profile = self;
-        match profile {
+        match self {
             Profile::General => 1,
             Profile::Fresh => t,
         }

@@ -1,7 +1,6 @@
 -- The test of a squared length: squares are taken from a bound, one after the other.
-use Rattle.std.specs.Prelude.{ℕ, ◌-◌, ◌*◌, ℤ, nat_le, unsigned_abs}
-use Rattle.matrices.specs.declared.Left.{Left}
+use Rattle.std.specs.Prelude.{ℕ, ◌-◌, ◌*◌, cond, Option, Some, None, ℤ, nat_le, unsigned_abs}
 
--- the square of x taken from what is left: whether it is within that, and what it leaves (0 where it is above)
-abbrev pub less_square : ℕ → ℤ → Left
-less_square left x = record { within = nat_le (unsigned_abs x * unsigned_abs x) left; rest = left - unsigned_abs x * unsigned_abs x }
+-- what the square of x leaves of what is left, if it is within that
+abbrev pub less_square : ℕ → ℤ → Option ℕ
+less_square left x = cond (nat_le (unsigned_abs x * unsigned_abs x) left) (Some (left - unsigned_abs x * unsigned_abs x)) None

@@ -14,7 +14,9 @@ use Rattle.matrices.proofs.Matrices.{product_cong}
 use Rattle.matrices.proofs.Tables.{length-table, entry-table, table_cong}
 use Rattle.matrices.proofs.Triangles.{lower_cong}
 use Rattle.settings.specs.declared.Setting.{Setting}
-use Rattle.settings.specs.Settings.{Parameters, k_of, h_of, parameters_of}
+use Rattle.settings.specs.declared.acceptance.AcceptedSetting.{AcceptedSetting}
+use Rattle.settings.specs.Accepted.{parameters_in}
+use Rattle.settings.specs.Settings.{Parameters, k_of, h_of}
 use Rattle.digits.specs.Bases.{AllInReach}
 use Rattle.small_rows.specs.Small.{Within, SmallMatrix, SmallBlocks}
 use Rattle.small_rows.proofs.Small.{small-blocks}
@@ -27,7 +29,7 @@ use Rattle.lova.specs.Message.{prepared_as, prepared_in}
 use Rattle.lova.proofs.Gadget.{digit_size}
 use Rattle.lova.proofs.NeverWraps.{columns_fit, entries_in_reach}
 use Rattle.lova.proofs.Tests.{bounded-everywhere}
-use Rattle.lova.proofs.Rebuilding.{rebuilt-accepted}
+use Rattle.lova.proofs.Rebuilding.{rebuilt-accepted, rebuilt-is}
 use Rattle.lova.proofs.Widths.{columns-are, wide_of, wide-few}
 
 -- the products with a matrix as it is stored are those with the matrix itself
@@ -42,10 +44,16 @@ module _ (m w : ℕ) (X : Matrix) (S~ : List ℤ) (is : S~ ≡ table m w X) wher
   stored-gram = lower_cong w _ _ (λ i j hi hj. product_cong m (transposed (signed w S~)) (transposed X) (signed w S~) X i j (λ k h. reads k i h hi) (λ k h. reads k j h hj))
 
 -- `right` is what the profile gives: the columns of the second witness
-module _ (s : Setting) (whole : Rebuilt s) (f : Profile) (right : ℕ) (is : right ≡ right_for s.t f) where
+module _ (accepted : AcceptedSetting) (f : Profile) (right : ℕ) (is : right ≡ right_for accepted.setting.t f) where
+  abbrev s : Setting
+  s = accepted.setting
+
+  whole : Rebuilt s
+  whole = rebuilt-is accepted
+
   -- the five numbers of the setting, and how wide the code makes the digit witness
   abbrev q : Parameters
-  q = parameters_of s
+  q = parameters_in accepted
 
   abbrev wide : ℕ
   wide = (s.t + right) * s.k

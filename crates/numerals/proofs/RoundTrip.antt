@@ -3,7 +3,8 @@ use mathlib.Core.Path.{◌≡◌, refl, sym, ap, ◌∙◌, subst}
 use mathlib.Core.Bool.{Bool, true, false, cond}
 use mathlib.Core.Logic.{⊎_elim}
 use mathlib.Core.List.{List, [], ◌∷◌, ◌++◌, append_assoc, append-nil}
-use mathlib.Core.Option.{Option, some, none, none-ne-some, some-injective}
+use Rattle.std.specs.Prelude.{Option, Some, None}
+use Rattle.std.proofs.lemmas.Option.{none-some, same_Some}
 use Prim.Native.Nat.{ℕ, zero, suc, ◌+◌, ◌-◌, ◌*◌, ◌/◌, ◌%◌, ◌^◌, ◌≤◌, ◌<◌}
 use native.Mathlib.Omega.{arith}
 use native.Mathlib.Nat.{eq-or-lt_of_le}
@@ -13,8 +14,6 @@ use lib.IntN.{ℤ, pos, negsuc}
 use mir.Syntax.{w64}
 use mir.Val.{SFits}
 use borrow.Author.Tests.{ne_eqb, lt-ltb, leb-true, eqb-true, eqb-false, not-true}
-use Rattle.numerals.specs.declared.ParsedU64.TheVariants as Unsigned
-use Rattle.numerals.specs.declared.ParsedI64.TheVariants as Signed
 use Rattle.numerals.specs.Numerals.{is_digit, are_digits, is_plain, value_from, natural_from, natural, with_minus, without_minus, integer, fit_unsigned, fit_signed, read_unsigned, read_signed, decimal, decimal_Z}
 use Rattle.numerals.proofs.Reading.{is_digit_lem}
 use Rattle.numerals.proofs.Writing.{by_digits, decimal-small, decimal_step}
@@ -70,11 +69,11 @@ more n s l r = record {
 spells : (n : ℕ) → Spells n (decimal n)
 spells n = by_digits Spells one more n
 
-pub natural-decimal : (n : ℕ) → natural (decimal n) ≡ some n
+pub natural-decimal : (n : ℕ) → natural (decimal n) ≡ Some n
 unfolding natural natural_from
 natural-decimal n = let r = spells n in rw (r.plain, r.digits, r.value)
 
-pub unsigned_back : (n : ℕ) → n < 2 ^ 64 → read_unsigned (decimal n) ≡ Unsigned.Number n
+pub unsigned_back : (n : ℕ) → n < 2 ^ 64 → read_unsigned (decimal n) ≡ Some n
 unfolding read_unsigned fit_unsigned
 unsigned_back n h = rw (natural-decimal n, lt-ltb n (2 ^ 64) h)
 
@@ -96,11 +95,11 @@ first_digit (x ∷ s) d p = go (is_digit x) refl d
     go true e h = rw (ne_eqb x 45 (λ q. let l = digit_range x e in omega (arith, l.0)))
     go false e h = absurd (subst T (sym h) tt)
 
-integer-plain : (n : ℕ) → integer (decimal n) ≡ some (pos n)
+integer-plain : (n : ℕ) → integer (decimal n) ≡ Some (pos n)
 unfolding without_minus
 integer-plain n = let r = spells n in first_digit (decimal n) r.digits r.plain ∙ ap without_minus (natural-decimal n)
 
-pub signed_back : (z : ℤ) → SFits w64 z → read_signed (decimal_Z z) ≡ Signed.Number z
+pub signed_back : (z : ℤ) → SFits w64 z → read_signed (decimal_Z z) ≡ Some z
 unfolding read_signed integer with_minus without_minus fit_signed decimal_Z
 signed_back (pos n) f = rw (integer-plain n, lt-ltb n (2 ^ 63) f.sfits)
 signed_back (negsuc n) f = rw (natural-decimal (suc n), lt-ltb n (2 ^ 63) f.sfits)
@@ -140,57 +139,57 @@ plain-decimal (x ∷ s) p d = go (is_digit x) refl d
     go true e f = let l = digit_range x e in let z : 0 * 10 + (x - 48) ≡ x - 48 = omega arith in rw z (by s l.0 l.1 p f)
     go false e f = absurd (subst T (sym f) tt)
 
-natural_only : (s : List ℕ) (n : ℕ) → natural s ≡ some n → s ≡ decimal n
+natural_only : (s : List ℕ) (n : ℕ) → natural s ≡ Some n → s ≡ decimal n
 unfolding natural natural_from
 natural_only s n e = go (is_plain s) refl (are_digits s) refl e
   where
-    go : (a : Bool) → is_plain s ≡ a → (b : Bool) → are_digits s ≡ b → cond a (cond b (some (value_from 0 s)) none) none ≡ some n → s ≡ decimal n
-    go true p true d h = sym (plain-decimal s p d) ∙ ap decimal (some-injective _ _ h)
-    go true p false d h = absurd (none-ne-some n h)
-    go false p b d h = absurd (none-ne-some n h)
+    go : (a : Bool) → is_plain s ≡ a → (b : Bool) → are_digits s ≡ b → cond a (cond b (Some (value_from 0 s)) None) None ≡ Some n → s ≡ decimal n
+    go true p true d h = sym (plain-decimal s p d) ∙ ap decimal (same_Some _ _ h)
+    go true p false d h = absurd (none-some n h)
+    go false p b d h = absurd (none-some n h)
 
-pub unsigned_only : (s : List ℕ) (n : ℕ) → read_unsigned s ≡ Unsigned.Number n → s ≡ decimal n
+pub unsigned_only : (s : List ℕ) (n : ℕ) → read_unsigned s ≡ Some n → s ≡ decimal n
 unfolding read_unsigned fit_unsigned
 unsigned_only s n e = go (natural s) refl e
   where
-    by : (m : ℕ) (b : Bool) → cond b (Unsigned.Number m) Unsigned.Bad ≡ Unsigned.Number n → m ≡ n
+    by : (m : ℕ) (b : Bool) → cond b (Some m) None ≡ Some n → m ≡ n
     by m true h = cc
     by m false h = let z : ◌≡◌ {A = ℕ} 0 1 = cc in absurd (omega arith)
 
-    go : (o : Option ℕ) → natural s ≡ o → fit_unsigned o ≡ Unsigned.Number n → s ≡ decimal n
-    go none p h = let z : ◌≡◌ {A = ℕ} 0 1 = cc in absurd (omega arith)
-    go (some m) p h = natural_only s m p ∙ ap decimal (by m (ltb m (2 ^ 64)) h)
+    go : (o : Option ℕ) → natural s ≡ o → fit_unsigned o ≡ Some n → s ≡ decimal n
+    go None p h = let z : ◌≡◌ {A = ℕ} 0 1 = cc in absurd (omega arith)
+    go (Some m) p h = natural_only s m p ∙ ap decimal (by m (ltb m (2 ^ 64)) h)
 
-integer_only : (s : List ℕ) (z : ℤ) → integer s ≡ some z → s ≡ decimal_Z z
+integer_only : (s : List ℕ) (z : ℤ) → integer s ≡ Some z → s ≡ decimal_Z z
 unfolding integer with_minus without_minus decimal_Z
-integer_only [] z e = absurd (none-ne-some z e)
+integer_only [] z e = absurd (none-some z e)
 integer_only (x ∷ s) z e = go (eqb x 45) refl e
   where
-    minus : (o : Option ℕ) → natural s ≡ o → x ≡ 45 → with_minus o ≡ some z → (x ∷ s) ≡ decimal_Z z
-    minus none p q h = absurd (none-ne-some z h)
-    minus (some zero) p q h = absurd (none-ne-some z h)
-    minus (some (suc n)) p q h = rw (q, natural_only s (suc n) p) (ap decimal_Z (some-injective _ _ h))
+    minus : (o : Option ℕ) → natural s ≡ o → x ≡ 45 → with_minus o ≡ Some z → (x ∷ s) ≡ decimal_Z z
+    minus None p q h = absurd (none-some z h)
+    minus (Some zero) p q h = absurd (none-some z h)
+    minus (Some (suc n)) p q h = rw (q, natural_only s (suc n) p) (ap decimal_Z (same_Some _ _ h))
 
-    plain : (o : Option ℕ) → natural (x ∷ s) ≡ o → without_minus o ≡ some z → (x ∷ s) ≡ decimal_Z z
-    plain none p h = absurd (none-ne-some z h)
-    plain (some n) p h = natural_only (x ∷ s) n p ∙ ap decimal_Z (some-injective _ _ h)
+    plain : (o : Option ℕ) → natural (x ∷ s) ≡ o → without_minus o ≡ Some z → (x ∷ s) ≡ decimal_Z z
+    plain None p h = absurd (none-some z h)
+    plain (Some n) p h = natural_only (x ∷ s) n p ∙ ap decimal_Z (same_Some _ _ h)
 
-    go : (b : Bool) → eqb x 45 ≡ b → cond b (with_minus (natural s)) (without_minus (natural (x ∷ s))) ≡ some z → (x ∷ s) ≡ decimal_Z z
+    go : (b : Bool) → eqb x 45 ≡ b → cond b (with_minus (natural s)) (without_minus (natural (x ∷ s))) ≡ Some z → (x ∷ s) ≡ decimal_Z z
     go true q h = minus (natural s) refl (eqb-true x 45 q) h
     go false q h = plain (natural (x ∷ s)) refl h
 
-pub signed_only : (s : List ℕ) (z : ℤ) → read_signed s ≡ Signed.Number z → s ≡ decimal_Z z
+pub signed_only : (s : List ℕ) (z : ℤ) → read_signed s ≡ Some z → s ≡ decimal_Z z
 unfolding read_signed fit_signed
 signed_only s z e = go (integer s) refl e
   where
-    pick : (y : ℤ) (b : Bool) → cond b (Signed.Number y) Signed.Bad ≡ Signed.Number z → y ≡ z
+    pick : (y : ℤ) (b : Bool) → cond b (Some y) None ≡ Some z → y ≡ z
     pick y true h = cc
     pick y false h = let z : ◌≡◌ {A = ℕ} 0 1 = cc in absurd (omega arith)
 
-    by : (y : ℤ) → fit_signed (some y) ≡ Signed.Number z → y ≡ z
+    by : (y : ℤ) → fit_signed (Some y) ≡ Some z → y ≡ z
     by (pos m) h = pick (pos m) (ltb m (2 ^ 63)) h
     by (negsuc m) h = pick (negsuc m) (ltb m (2 ^ 63)) h
 
-    go : (o : Option ℤ) → integer s ≡ o → fit_signed o ≡ Signed.Number z → s ≡ decimal_Z z
-    go none p h = let z : ◌≡◌ {A = ℕ} 0 1 = cc in absurd (omega arith)
-    go (some y) p h = integer_only s y p ∙ ap decimal_Z (by y h)
+    go : (o : Option ℤ) → integer s ≡ o → fit_signed o ≡ Some z → s ≡ decimal_Z z
+    go None p h = let z : ◌≡◌ {A = ℕ} 0 1 = cc in absurd (omega arith)
+    go (Some y) p h = integer_only s y p ∙ ap decimal_Z (by y h)

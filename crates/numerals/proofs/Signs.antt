@@ -1,49 +1,44 @@
 -- Signed numbers: their numerals, and the machine's casts of them.
 use mathlib.Core.Path.{◌≡◌, refl, sym, ap, ◌∙◌, subst}
-use mathlib.Core.Bool.{Bool, true, false, cond}
+use mathlib.Core.Bool.{Bool, true, false, cond, ◌&&◌}
+use Rattle.std.specs.Cmp.Lexicographic.{pointwise}
 use mathlib.Core.List.{List, [], ◌∷◌}
-use mathlib.Core.Option.{Option, some, none}
+use Rattle.std.specs.Prelude.{Option, Some, None, Result, Ok, Err, OkIff}
+use Rattle.std.specs.Result.{result_ok}
+use native.Mathlib.Decide.{dec_lt}
 use Prim.Native.Nat.{ℕ, zero, suc, ◌-◌, ◌^◌, ◌≤◌, ◌<◌}
 use native.Mathlib.Omega.{arith}
 use native.Mathlib.Numerals.{sub-one}
-use lib.ListN.{length, get_or, take, drop, length-drop}
-use lib.Seq.{take_all}
-use lib.Dec.{T, ltb}
+use lib.ListN.{take, drop}
+use lib.Dec.{T, ltb, eqb}
 use lib.IntN.{ℤ, pos, negsuc, nat_abs, ◌-ℤ◌, pred_ℤ, pred_ℤ-+ℤ, +ℤ_idl}
 use lib.Signed.{lt_z, non_neg}
 use mir.Syntax.{w64}
 use mir.Val.{to_z, of_z, SFits, Fits}
-use mir.ValLaws.{to_z_pos, to_z-neg, to_z-of_z}
-use borrow.Author.Tests.{lt-ltb, le-ltb, eq-eqb, ne_eqb, ltb-true, ltb-false}
-use Rattle.numerals.specs.declared.ParsedU64.{ParsedU64}
-use Rattle.numerals.specs.declared.ParsedU64.TheVariants as Unsigned
-use Rattle.numerals.specs.declared.ParsedI64.TheVariants as Signed
-use Rattle.numerals.specs.Numerals.{natural, with_minus, without_minus, integer, fit_unsigned, fit_signed, read_unsigned, read_signed, unsigned_of, decimal, decimal_Z}
+use mir.ValLaws.{to_z-of_z}
+use borrow.Author.Tests.{lt-ltb, le-ltb, ltb-true, ltb-false}
+use Rattle.numerals.specs.Numerals.{natural, is_plain, with_minus, without_minus, integer, fit_unsigned, fit_signed, read_unsigned, read_signed, decimal, decimal_Z}
 
--- a number that was read without a minus
-pub positive_fits : (p : ParsedU64) (n : ℕ) → p ≡ Unsigned.Number n → n < 2 ^ 63 → Signed.Number (to_z w64 n) ≡ fit_signed (without_minus (unsigned_of p))
-unfolding fit_signed without_minus unsigned_of
-positive_fits p n e h = rw (e, lt-ltb n (2 ^ 63) h)
+large : (n : ℕ) → (SFits w64 (pos n) → ⊥) → 2 ^ 63 ≤ n
+large n h = go (dec_lt n (2 ^ 63))
+  where
+    go : Dec (n < 2 ^ 63) → 2 ^ 63 ≤ n
+    go (yes l) = absurd (h (record { sfits = l }))
+    go (no l) = omega arith
 
-pub positive_large : (p : ParsedU64) (n : ℕ) → p ≡ Unsigned.Number n → 2 ^ 63 ≤ n → Signed.Bad ≡ fit_signed (without_minus (unsigned_of p))
-unfolding fit_signed without_minus unsigned_of
-positive_large p n e h = rw (e, le-ltb n (2 ^ 63) h)
-
-pub positive_bad : (p : ParsedU64) → p ≡ Unsigned.Bad → Signed.Bad ≡ fit_signed (without_minus (unsigned_of p))
-unfolding fit_signed without_minus unsigned_of
-positive_bad p e = rw e
+-- a number that was read without a minus, by the conversion to a signed word
+pub positive_lem : {E : Type 0} (n : ℕ) (r : Result ℤ E) → OkIff r (SFits w64 (pos n)) (pos n) → result_ok r ≡ fit_signed (Some (pos n))
+unfolding fit_signed
+positive_lem n (Ok z) h = rw (← h.1, lt-ltb n (2 ^ 63) h.0.sfits)
+positive_lem n (Err e) h = rw (le-ltb n (2 ^ 63) (large n h))
 
 -- a number that was read after a minus: n is the code's k + 1, and −1 − k is −n
-pub negative_bad : (p : ParsedU64) → p ≡ Unsigned.Bad → Signed.Bad ≡ fit_signed (with_minus (unsigned_of p))
-unfolding fit_signed with_minus unsigned_of
-negative_bad p e = rw e
+pub negative-zero : (n : ℕ) → n ≡ 0 → None ≡ fit_signed (with_minus (Some n))
+unfolding fit_signed with_minus
+negative-zero n z = rw z
 
-pub negative-zero : (p : ParsedU64) (n : ℕ) → p ≡ Unsigned.Number n → n ≡ 0 → Signed.Bad ≡ fit_signed (with_minus (unsigned_of p))
-unfolding fit_signed with_minus unsigned_of
-negative-zero p n e z = rw (e, z)
-
-negative-at : (n : ℕ) → 0 < n → fit_signed (with_minus (unsigned_of (Unsigned.Number n))) ≡ fit_signed (some (negsuc (n - 1)))
-unfolding with_minus unsigned_of
+negative-at : (n : ℕ) → 0 < n → fit_signed (with_minus (Some n)) ≡ fit_signed (Some (negsuc (n - 1)))
+unfolding with_minus
 negative-at zero h = absurd (omega arith)
 negative-at (suc n) h = rw sub-one
 
@@ -51,62 +46,57 @@ minus-one-less : (k : ℕ) → negsuc 0 -ℤ pos k ≡ negsuc k
 minus-one-less zero = refl
 minus-one-less (suc k) = ap negsuc (omega arith)
 
-less-value : (k : ℕ) → k < 2 ^ 63 → negsuc 0 -ℤ to_z w64 k ≡ negsuc k
-less-value k h = rw (to_z_pos w64 k h) (minus-one-less k)
+less-value : (k : ℕ) → k < 2 ^ 63 → negsuc 0 -ℤ to_z w64 (of_z w64 (pos k)) ≡ negsuc k
+less-value k h = rw (to_z-of_z w64 (pos k) (record { sfits = h })) (minus-one-less k)
 
-pub less-fits : (k : ℕ) → k < 2 ^ 63 → SFits w64 (negsuc 0 -ℤ to_z w64 k)
-less-fits k h = rw (less-value k h) (record { sfits = h })
-
-pub negative_fits : (p : ParsedU64) (n : ℕ) → p ≡ Unsigned.Number n → 0 < n → n - 1 < 2 ^ 63
-    → Signed.Number (to_z w64 (of_z w64 (negsuc 0 -ℤ to_z w64 (n - 1)))) ≡ fit_signed (with_minus (unsigned_of p))
+pub negative_fits : (n : ℕ) → 0 < n → n - 1 < 2 ^ 63 → Some (to_z w64 (of_z w64 (negsuc 0 -ℤ to_z w64 (of_z w64 (pos (n - 1)))))) ≡ fit_signed (with_minus (Some n))
 unfolding fit_signed
-negative_fits p n e g h = rw (less-value (n - 1) h, to_z-neg w64 (n - 1) h, e, negative-at n g, lt-ltb (n - 1) (2 ^ 63) h)
+negative_fits n g h = rw (less-value (n - 1) h, to_z-of_z w64 (negsuc (n - 1)) (record { sfits = h }), negative-at n g, lt-ltb (n - 1) (2 ^ 63) h)
 
-pub negative_large : (p : ParsedU64) (n : ℕ) → p ≡ Unsigned.Number n → 0 < n → 2 ^ 63 ≤ n - 1 → Signed.Bad ≡ fit_signed (with_minus (unsigned_of p))
+pub negative_large : (n : ℕ) → 0 < n → (SFits w64 (pos (n - 1)) → ⊥) → None ≡ fit_signed (with_minus (Some n))
 unfolding fit_signed
-negative_large p n e g h = rw (e, negative-at n g, le-ltb (n - 1) (2 ^ 63) h)
+negative_large n g h = rw (negative-at n g, le-ltb (n - 1) (2 ^ 63) (large (n - 1) h))
 
 -- a number beyond 64 bits is beyond the signed word too, with a minus and without
-minus-by : (n : ℕ) (b : Bool) → ltb n (2 ^ 64) ≡ b → fit_signed (with_minus (some n)) ≡ fit_signed (with_minus (unsigned_of (cond b (Unsigned.Number n) Unsigned.Bad)))
-unfolding fit_signed with_minus unsigned_of
+minus-by : (n : ℕ) (b : Bool) → ltb n (2 ^ 64) ≡ b → fit_signed (with_minus (Some n)) ≡ fit_signed (with_minus (cond b (Some n) None))
+unfolding fit_signed with_minus
 minus-by n true e = refl
 minus-by zero false e = refl
 minus-by (suc n) false e = simp (le-ltb n (2 ^ 63) (omega (arith, ltb-false (suc n) (2 ^ 64) e)))
 
-minus_fit : (o : Option ℕ) → fit_signed (with_minus o) ≡ fit_signed (with_minus (unsigned_of (fit_unsigned o)))
-unfolding fit_unsigned unsigned_of
-minus_fit none = refl
-minus_fit (some n) = minus-by n (ltb n (2 ^ 64)) refl
+minus_fit : (o : Option ℕ) → fit_signed (with_minus o) ≡ fit_signed (with_minus (fit_unsigned o))
+unfolding fit_unsigned
+minus_fit None = refl
+minus_fit (Some n) = minus-by n (ltb n (2 ^ 64)) refl
 
-plain_by : (n : ℕ) (b : Bool) → ltb n (2 ^ 64) ≡ b → fit_signed (some (pos n)) ≡ fit_signed (without_minus (unsigned_of (cond b (Unsigned.Number n) Unsigned.Bad)))
-unfolding fit_signed without_minus unsigned_of
+plain_by : (n : ℕ) (b : Bool) → ltb n (2 ^ 64) ≡ b → fit_signed (Some (pos n)) ≡ fit_signed (without_minus (cond b (Some n) None))
+unfolding fit_signed without_minus
 plain_by n true e = refl
 plain_by n false e = simp (le-ltb n (2 ^ 63) (omega (arith, ltb-false n (2 ^ 64) e)))
 
-plain_fit : (o : Option ℕ) → fit_signed (without_minus o) ≡ fit_signed (without_minus (unsigned_of (fit_unsigned o)))
-unfolding fit_unsigned without_minus unsigned_of
-plain_fit none = refl
-plain_fit (some n) = plain_by n (ltb n (2 ^ 64)) refl
+plain_fit : (o : Option ℕ) → fit_signed (without_minus o) ≡ fit_signed (without_minus (fit_unsigned o))
+unfolding fit_unsigned without_minus
+plain_fit None = refl
+plain_fit (Some n) = plain_by n (ltb n (2 ^ 64)) refl
 
 -- the first byte tells the sign
-pub after_minus : (s : List ℕ) → 0 < length s → get_or s 0 0 ≡ 45 → fit_signed (with_minus (unsigned_of (read_unsigned (drop 1 s)))) ≡ read_signed s
+pub after_minus : (s : List ℕ) → pointwise eqb (take 1 s) (45 ∷ []) ≡ true → fit_signed (with_minus (read_unsigned (drop 1 s))) ≡ read_signed s
 unfolding read_signed integer read_unsigned
-after_minus [] h e = absurd (omega arith)
-after_minus (x ∷ s) h e = rw (eq-eqb x 45 e) (sym (minus_fit (natural s)))
+after_minus [] e = absurd (subst T (sym e) tt)
+after_minus (x ∷ s) e = go (eqb x 45) e
+  where
+    go : (b : Bool) → (b && true) ≡ true → fit_signed (with_minus (fit_unsigned (natural s))) ≡ fit_signed (cond b (with_minus (natural s)) (without_minus (natural (x ∷ s))))
+    go true h = sym (minus_fit (natural s))
+    go false h = absurd (subst T (sym h) tt)
 
-pub no_minus : (s : List ℕ) → 0 < length s → (get_or s 0 0 ≡ 45 → ⊥) → fit_signed (without_minus (unsigned_of (read_unsigned s))) ≡ read_signed s
-unfolding read_signed integer read_unsigned
-no_minus [] h e = absurd (omega arith)
-no_minus (x ∷ s) h e = rw (ne_eqb x 45 e) (sym (plain_fit (natural (x ∷ s))))
-
-pub empty-signed : (s : List ℕ) → length s ≡ 0 → Signed.Bad ≡ read_signed s
-unfolding read_signed integer fit_signed
-empty-signed [] h = refl
-empty-signed (x ∷ s) h = let z : suc (length s) ≡ 0 = h in absurd (omega arith)
-
--- the bytes after the first, as the part `&s[1..]` has them
-pub rest-whole : (s : List ℕ) → take (length s - 1) (drop 1 s) ≡ drop 1 s
-rest-whole s = take_all (length s - 1) (drop 1 s) (rw length-drop (omega arith))
+pub no_minus : (s : List ℕ) → pointwise eqb (take 1 s) (45 ∷ []) ≡ false → fit_signed (without_minus (read_unsigned s)) ≡ read_signed s
+unfolding read_signed integer read_unsigned natural is_plain fit_unsigned without_minus
+no_minus [] e = refl
+no_minus (x ∷ s) e = go (eqb x 45) e
+  where
+    go : (b : Bool) → (b && true) ≡ false → fit_signed (without_minus (fit_unsigned (natural (x ∷ s)))) ≡ fit_signed (cond b (with_minus (natural s)) (without_minus (natural (x ∷ s))))
+    go true h = absurd (subst T h tt)
+    go false h = sym (plain_fit (natural (x ∷ s)))
 
 no_below : (n : ℕ) → n < 0 → ⊥
 no_below n h = omega arith
@@ -137,10 +127,6 @@ natural-at : (z : ℤ) → SFits w64 z → lt_z z (pos 0) ≡ false → (T (non_
 unfolding decimal_Z
 natural-at (pos n) f e = ((tt, record { fits = omega (arith, f.sfits) }), refl)
 natural-at (negsuc k) f e = absurd (subst T e tt)
-
-pub read-natural : (z : ℤ) → SFits w64 z → lt_z (to_z w64 (of_z w64 z)) (pos 0) ≡ false
-    → T (non_neg (to_z w64 (of_z w64 z))) × Fits w64 (nat_abs (to_z w64 (of_z w64 z)))
-read-natural z f e = rw (to_z-of_z w64 z f) (natural-at z f (rw (to_z-of_z w64 z f) at e)).0
 
 -- a numeral by the test and the size that the code has
 pub decimal-natural : (z : ℤ) (w : ℕ) → SFits w64 z → lt_z (to_z w64 (of_z w64 z)) (pos 0) ≡ false → w ≡ nat_abs (to_z w64 (of_z w64 z)) → decimal_Z z ≡ decimal w

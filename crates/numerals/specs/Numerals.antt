@@ -1,10 +1,5 @@
 -- Decimal numerals: digits alone, or a minus and digits, with no plus, no leading 0 and no −0.
-use Rattle.std.specs.Prelude.{Bool, true, false, not, cond, List, [], ◌∷◌, ◌++◌, ℕ, zero, suc, ◌+◌, ◌-◌, ◌*◌, ◌/◌, ◌%◌, ◌^◌, leb, ltb, eqb, ℤ, pos, negsuc}
-use Rattle.std.proofs.Math.Option.{Option, some, none}
-use Rattle.numerals.specs.declared.ParsedU64.{ParsedU64}
-use Rattle.numerals.specs.declared.ParsedU64.TheVariants as Unsigned
-use Rattle.numerals.specs.declared.ParsedI64.{ParsedI64}
-use Rattle.numerals.specs.declared.ParsedI64.TheVariants as Signed
+use Rattle.std.specs.Prelude.{Bool, true, false, not, cond, List, [], ◌∷◌, ◌++◌, ℕ, zero, suc, ◌+◌, ◌-◌, ◌*◌, ◌/◌, ◌%◌, ◌^◌, leb, ltb, eqb, ℤ, pos, negsuc, Option, Some, None}
 
 -- whether x is the ASCII code of a digit
 unfoldable pub is_digit : ℕ → Bool
@@ -28,56 +23,46 @@ value_from n (x ∷ s) = value_from (n * 10 + (x - 48)) s
 
 -- the same, and none where a byte is no digit
 unfoldable pub natural_from : ℕ → List ℕ → Option ℕ
-natural_from n s = cond (are_digits s) (some (value_from n s)) none
+natural_from n s = cond (are_digits s) (Some (value_from n s)) None
 
 -- the natural number that s is a numeral of
 unfoldable pub natural : List ℕ → Option ℕ
-natural s = cond (is_plain s) (natural_from 0 s) none
+natural s = cond (is_plain s) (natural_from 0 s) None
 
 -- a natural number as a whole one
 unfoldable pub without_minus : Option ℕ → Option ℤ
-without_minus none = none
-without_minus (some n) = some (pos n)
+without_minus None = None
+without_minus (Some n) = Some (pos n)
 
 -- a natural number after a minus: 0 has no sign
 unfoldable pub with_minus : Option ℕ → Option ℤ
-with_minus none = none
-with_minus (some zero) = none
-with_minus (some (suc n)) = some (negsuc n)
+with_minus None = None
+with_minus (Some zero) = None
+with_minus (Some (suc n)) = Some (negsuc n)
 
 -- the whole number that s is a numeral of; byte 45 is the minus
 unfoldable pub integer : List ℕ → Option ℤ
-integer [] = none
+integer [] = None
 integer (x ∷ s) = cond (eqb x 45) (with_minus (natural s)) (without_minus (natural (x ∷ s)))
 
 -- a number that an unsigned word of 64 bits holds
-unfoldable pub fit_unsigned : Option ℕ → ParsedU64
-fit_unsigned none = Unsigned.Bad
-fit_unsigned (some n) = cond (ltb n (2 ^ 64)) (Unsigned.Number n) Unsigned.Bad
+unfoldable pub fit_unsigned : Option ℕ → Option ℕ
+fit_unsigned None = None
+fit_unsigned (Some n) = cond (ltb n (2 ^ 64)) (Some n) None
 
 -- a number that a signed word of 64 bits holds: negsuc n is −(n + 1), so −2^63 is the last
-unfoldable pub fit_signed : Option ℤ → ParsedI64
-fit_signed none = Signed.Bad
-fit_signed (some (pos n)) = cond (ltb n (2 ^ 63)) (Signed.Number (pos n)) Signed.Bad
-fit_signed (some (negsuc n)) = cond (ltb n (2 ^ 63)) (Signed.Number (negsuc n)) Signed.Bad
+unfoldable pub fit_signed : Option ℤ → Option ℤ
+fit_signed None = None
+fit_signed (Some (pos n)) = cond (ltb n (2 ^ 63)) (Some (pos n)) None
+fit_signed (Some (negsuc n)) = cond (ltb n (2 ^ 63)) (Some (negsuc n)) None
 
 -- what a byte string is as an unsigned number
-unfoldable pub read_unsigned : List ℕ → ParsedU64
+unfoldable pub read_unsigned : List ℕ → Option ℕ
 read_unsigned s = fit_unsigned (natural s)
 
 -- what a byte string is as a signed number
-unfoldable pub read_signed : List ℕ → ParsedI64
+unfoldable pub read_signed : List ℕ → Option ℤ
 read_signed s = fit_signed (integer s)
-
--- the number that was read, if any
-unfoldable pub unsigned_of : ParsedU64 → Option ℕ
-unsigned_of Unsigned.Bad = none
-unsigned_of (Unsigned.Number n) = some n
-
--- the signed number that was read, if any
-unfoldable pub signed_of : ParsedI64 → Option ℤ
-signed_of Signed.Bad = none
-signed_of (Signed.Number z) = some z
 
 -- the numeral of n, by at most as many steps as the first argument
 unfoldable pub decimal_in : ℕ → ℕ → List ℕ

@@ -1,61 +1,34 @@
 // Decimal numerals, read from bytes.
 #![tactic(auto)]
 
-ghost use Rattle.std.specs.Prelude.{◌≡◌};
-ghost use Rattle.numerals.specs.Numerals.{read_unsigned};
+ghost use Rattle.std.specs.Prelude.{◌≡◌, ◌-◌, true, false, MatchOption};
+ghost use Rattle.numerals.specs.Numerals.{is_digit, read_unsigned};
 
-// An unsigned number, or that there is none.
-#[derive(Clone, Copy)]
-pub enum ParsedU64 {
-    Number(u64),
-    Bad,
+// The value of a digit.
+#[tactic(auto, unfolding(crate::specs::Numerals::is_digit))]
+fn digit_of(byte: u8) -> Option<u64>
+    ensures { MatchOption result (is_digit byte ≡ false) (λ d. (is_digit byte ≡ true) × (d ≡ byte - 48)) }
+{
+    if byte.is_ascii_digit() {
+        Some(u64::from(byte - b'0'))
+    } else {
+        None
+    }
 }
-
-// A signed number, or that there is none.
-#[derive(Clone, Copy)]
-pub enum ParsedI64 {
-    Number(i64),
-    Bad,
-}
-
-// The largest number whose tenfold fits, and the largest digit that may follow it.
-const TENTH: u64 = 1844674407370955161;
-
-const LAST: u64 = 5;
 
 // The number that s is a numeral of.
-pub fn parse_u64(s: &[u8]) -> ParsedU64
+pub fn parse_u64(s: &[u8]) -> Option<u64>
     ensures { result ≡ read_unsigned s.now }
 {
-    if s.len() == 0 {
-        return ParsedU64::Bad;
+    if s.is_empty() {
+        return None;
     }
-    if 1 < s.len() {
-        if s[0] == 48 {
-            return ParsedU64::Bad;
-        }
+    if s[0] == b'0' && 1 < s.len() {
+        return None;
     }
     let mut n: u64 = 0;
-    let mut i: usize = 0;
-    while i < s.len() {
-        let x = s[i];
-        if x < 48 {
-            return ParsedU64::Bad;
-        }
-        if 57 < x {
-            return ParsedU64::Bad;
-        }
-        let d = (x - 48) as u64;
-        if TENTH < n {
-            return ParsedU64::Bad;
-        }
-        if n == TENTH {
-            if LAST < d {
-                return ParsedU64::Bad;
-            }
-        }
-        n = n * 10 + d;
-        i += 1;
+    for byte in s {
+        n = n.checked_mul(10)?.checked_add(digit_of(*byte)?)?;
     }
-    ParsedU64::Number(n)
+    Some(n)
 }

@@ -1,22 +1,24 @@
 -- What a `param` line opens: unread, refused by the setting's rules or by the program's, or taken.
-use mathlib.Core.Path.{◌≡◌, refl, sym, ◌∙◌, ap, subst}
-use mathlib.Core.Bool.{true, false, not, cond}
+use mathlib.Core.Path.{◌≡◌, refl, sym, ◌∙◌, ap}
+use mathlib.Core.Bool.{true, false, not}
 use mathlib.Core.List.{List, [], ◌∷◌}
-use mathlib.Core.Option.{Option, some, none}
+use Rattle.std.specs.Prelude.{Option, Some, None, Result, Ok, Err, is_some, IfSome, ok_or}
 use Prim.Native.Nat.{ℕ}
 use native.Mathlib.Decide.{ℕ_discrete}
 use native.Mathlib.Omega.{arith}
 use borrow.Author.Tests.{eq-eqb, ne_eqb, not-false}
-use lib.Dec.{eqb}
 use Rattle.settings.specs.Rules.{Rule, ◌gives◌, first_of}
-use Rattle.settings.specs.Settings.{Parameters, setting_rules, setting_refusal, setting_of, parameters_of, accepted_of, refused_of, checked_of}
-use Rattle.settings.specs.HouseList.{parameters}
-use Rattle.settings.specs.declared.Checked.{Checked}
+use Rattle.settings.specs.Settings.{Parameters, setting_rules, setting_refusal, setting_of, parameters_of, checked_of}
+use Rattle.settings.specs.Accepted.{parameters_in}
+use Rattle.settings.specs.declared.Setting.{Setting}
+use Rattle.settings.specs.declared.acceptance.AcceptedSetting.{AcceptedSetting}
+use Rattle.settings.specs.declared.refused.Refusal.TheVariants.{LargeSetting}
+use Rattle.settings.proofs.Accepted.{from_ok, from_err}
+use Rattle.chain.specs.declared.small_settings.SmallSetting.{SmallSetting}
 use Rattle.settings.proofs.Rules.{skip, stop, skip_all, stop-all, none-applies, none_append}
-use Rattle.lova.specs.Calls.{Rebuilt}
-use Rattle.lova.proofs.Rebuilding.{number-is-setting, setting-ok, parameters-are}
+use Rattle.lova.proofs.Rebuilding.{setting-ok, parameters-are}
 use Rattle.chain.specs.Limits.{setting_limits, small, program_limits, program_rules}
-use Rattle.chain.specs.Params.{from_five, param_setting, param_refusal, opened_of}
+use Rattle.chain.specs.Params.{from_five, param_setting, param_refusal, opened_of, opened_as}
 use Rattle.chain.proofs.Limits.{program-accepts, program-refusal}
 
 -- ---- the program's rule after the setting's: it decides where the setting is accepted, and only there
@@ -46,83 +48,82 @@ module _ (p : Parameters) where
 
 -- ---- how the answer is come to
 
--- five zeros are refused, so a record of zeros comes of them, and it may stand beside any number
-pub zeros-beside : (number : ℕ) (zeros : Checked) → zeros ≡ checked_of (parameters 0 0 0 0 0) → ◌≡◌ {A = Checked} (record { refusal = number; setting = zeros.setting }) (refused_of number)
-unfolding checked_of setting_refusal first_of
-zeros-beside number zeros is = ap (λ (c : Checked). record { refusal = number; setting = c.setting }) is
-
 -- a number other than 0 refuses
-refused-by : (o : Option (List ℕ)) (number : ℕ) → param_refusal o ≡ number → (number ≡ 0 → ⊥) → refused_of number ≡ opened_of o
+refused-by : (o : Option (List ℕ)) (number : ℕ) → param_refusal o ≡ number → (number ≡ 0 → ⊥) → Err number ≡ opened_of o
 unfolding opened_of
 refused-by o number e ne = rw (e, ne_eqb number 0 ne) refl
 
 module _ (o : Option (List ℕ)) where
   -- no five numbers: 13
-  pub opened-unread : o ≡ none → refused_of 13 ≡ opened_of o
+  pub opened-unread : o ≡ None → Err 13 ≡ opened_of o
   unfolding param_refusal
   opened-unread e = refused-by o 13 (ap param_refusal e) (λ z. omega (arith, z))
 
   -- five numbers, and the constructor's answer for them
-  module _ (xs : List ℕ) (read : o ≡ some xs) (r : Checked) (is : r ≡ checked_of (from_five xs)) where
-    -- where the program's rules give the setting's number, the answer is the constructor's
-    as_checked : first_of (program_rules (from_five xs)) ≡ setting_refusal (from_five xs) → r ≡ opened_of o
-    unfolding checked_of opened_of param_setting param_refusal
-    as_checked e = is ∙ ap (λ (n : ℕ). cond (eqb n 0) (accepted_of (setting_of (from_five xs))) (refused_of n)) (sym e) ∙ ap opened_of (sym read)
-
+  module _ (xs : List ℕ) (read : o ≡ Some xs) where
     -- refused: 1 to 6
-    pub opened-refused : (r.refusal ≡ 0 → ⊥) → r ≡ opened_of o
-    opened-refused ne = as_checked (rules-refuse (from_five xs) (λ z. ne (number-is-setting (from_five xs) r is ∙ z)))
+    pub opened-refused : (r : ℕ) → Err r ≡ checked_of (from_five xs) → Err r ≡ opened_of o
+    unfolding param_refusal
+    opened-refused r is =
+        let e = from_err (from_five xs) r is in
+        refused-by o r (ap param_refusal read ∙ rules-refuse (from_five xs) e.0 ∙ sym e.1) (λ z. e.0 (sym e.1 ∙ z))
 
-    module _ (none-refuses : r.refusal ≡ 0) where
+    module _ (s : Setting) (is : Ok s ≡ checked_of (from_five xs)) where
       ok : setting_refusal (from_five xs) ≡ 0
-      ok = setting-ok (from_five xs) r is none-refuses
+      ok = setting-ok (from_five xs) s is
 
-      same-five : parameters_of r.setting ≡ from_five xs
-      same-five = parameters-are (from_five xs) r is none-refuses
+      same-five : parameters_of s ≡ from_five xs
+      same-five = parameters-are (from_five xs) s is
 
       -- too large for the program: 14
-      pub opened_large : small program_limits (parameters_of r.setting) ≡ false → refused_of 14 ≡ opened_of o
+      pub opened_large : small program_limits (parameters_of s) ≡ false → Err 14 ≡ opened_of o
       unfolding param_refusal
       opened_large e =
           refused-by o 14 (ap param_refusal read ∙ rules_large (from_five xs) ok (ap (small program_limits) (sym same-five) ∙ e)) (λ z. omega (arith, z))
 
       -- taken
-      pub opened-taken : small program_limits (parameters_of r.setting) ≡ true → r ≡ opened_of o
-      opened-taken e = as_checked (rules_pass (from_five xs) ok (ap (small program_limits) (sym same-five) ∙ e) ∙ sym ok)
+      pub opened-taken : small program_limits (parameters_of s) ≡ true → Ok s ≡ opened_of o
+      unfolding opened_of param_refusal param_setting
+      opened-taken e =
+          ap Ok (from_ok (from_five xs) s is).1
+          ∙ rw (read, rules_pass (from_five xs) ok (ap (small program_limits) (sym same-five) ∙ e)) refl
+
+-- the answer for an accepted setting, by whether it is one that the program takes
+pub opened-by : (o : Option (List ℕ)) (xs : List ℕ) → o ≡ Some xs → (a : AcceptedSetting) → Ok a.setting ≡ checked_of (from_five xs) → (q : Option SmallSetting)
+    → is_some q ≡ small program_limits (parameters_in a) → IfSome q (λ s. s.accepted ≡ a) → opened_as (ok_or q LargeSetting) ≡ opened_of o
+opened-by o xs read a is None none same = opened_large o xs read a.setting is (sym none)
+opened-by o xs read a is (Some s) some same = ap (λ (b : AcceptedSetting). Ok b.setting) same ∙ opened-taken o xs read a.setting is (sym some)
 
 -- ---- what the answer says
 
 passed : (o : Option (List ℕ)) → param_refusal o ≡ 0 → (setting_refusal (param_setting o) ≡ 0) × (small program_limits (param_setting o) ≡ true)
 unfolding param_refusal param_setting
-passed none e = absurd (omega (arith, e))
-passed (some xs) e = rules-passed (from_five xs) e
+passed None e = absurd (omega (arith, e))
+passed (Some xs) e = rules-passed (from_five xs) e
 
-module _ (o : Option (List ℕ)) (r : Checked) (is : r ≡ opened_of o) where
-  number_by : (number : ℕ) → param_refusal o ≡ number → Dec (number ≡ 0) → (opened_of o).refusal ≡ number
+module _ (o : Option (List ℕ)) where
+  -- a setting in the answer is that of the record's five numbers, and nothing refuses it
+  pub opened-ok : (s : Setting) → Ok s ≡ opened_of o → (param_refusal o ≡ 0) × (parameters_of s ≡ param_setting o)
   unfolding opened_of
-  number_by number e (yes z) = rw (e, eq-eqb number 0 z) (sym z)
-  number_by number e (no ne) = rw (e, ne_eqb number 0 ne) refl
+  opened-ok s is = go (ℕ_discrete (param_refusal o) 0)
+    where
+      go : Dec (param_refusal o ≡ 0) → (param_refusal o ≡ 0) × (parameters_of s ≡ param_setting o)
+      go (yes z) =
+          let both : ◌≡◌ {A = Result Setting ℕ} (Ok s) (Ok (setting_of (param_setting o))) = is ∙ rw (eq-eqb (param_refusal o) 0 z) refl in
+          let same : s ≡ setting_of (param_setting o) = grind arith in
+          (z, ap parameters_of same)
+      go (no ne) =
+          let both : ◌≡◌ {A = Result Setting ℕ} (Ok s) (Err (param_refusal o)) = is ∙ rw (ne_eqb (param_refusal o) 0 ne) refl in absurd (grind arith)
 
-  -- the answer's number is the record's
-  pub opened-number : r.refusal ≡ param_refusal o
-  opened-number = ap (λ (c : Checked). c.refusal) is ∙ number_by (param_refusal o) refl (ℕ_discrete (param_refusal o) 0)
-
-  module _ (none-refuses : r.refusal ≡ 0) where
-    good : (setting_refusal (param_setting o) ≡ 0) × (small program_limits (param_setting o) ≡ true)
-    good = passed o (sym opened-number ∙ none-refuses)
-
-    setting-is : r.setting ≡ setting_of (param_setting o)
-    unfolding opened_of
-    setting-is = ap (λ (c : Checked). c.setting) is ∙ rw (eq-eqb (param_refusal o) 0 (sym opened-number ∙ none-refuses)) refl
-
-    -- the setting of a record that is not refused is that of its five numbers
-    pub opened-parameters : parameters_of r.setting ≡ param_setting o
-    opened-parameters = ap parameters_of setting-is
-
-    -- it is as the constructor makes it
-    pub opened-rebuilt : Rebuilt r.setting
-    opened-rebuilt = subst Rebuilt (sym setting-is) (record { ok = good.0; whole = refl })
-
-    -- and it is small enough for the program
-    pub opened-small : small program_limits (parameters_of r.setting) ≡ true
-    opened-small = ap (small program_limits) opened-parameters ∙ good.1
+  -- and a number is that of the record
+  pub opened-err : (r : ℕ) → Err r ≡ opened_of o → (param_refusal o ≡ 0 → ⊥) × (r ≡ param_refusal o)
+  unfolding opened_of
+  opened-err r is = go (ℕ_discrete (param_refusal o) 0)
+    where
+      go : Dec (param_refusal o ≡ 0) → (param_refusal o ≡ 0 → ⊥) × (r ≡ param_refusal o)
+      go (yes z) =
+          let both : ◌≡◌ {A = Result Setting ℕ} (Err r) (Ok (setting_of (param_setting o))) = is ∙ rw (eq-eqb (param_refusal o) 0 z) refl in absurd (grind arith)
+      go (no ne) =
+          let both : ◌≡◌ {A = Result Setting ℕ} (Err r) (Err (param_refusal o)) = is ∙ rw (ne_eqb (param_refusal o) 0 ne) refl in
+          let same : r ≡ param_refusal o = grind arith in
+          (ne, same)

@@ -18,28 +18,27 @@ pub(crate) fn points(rt: &impl Print) {
     answers::asked(rt, 16, 256, 2, 128, 268435455);
 }
 
-// Asks the house list: the setting that it gives, which is zeros beside a refusal, and the answer.
+// Asks the house list: the setting that it gives, for which zeros stand beside a refusal, and the answer.
 fn listed(rt: &impl Print, number: usize) {
     let given = Setting::listed(number);
-    let setting = given.setting;
-    print::number(rt, b"house list ", number as u64);
+    print::number(rt, b"house list ", number);
     print::text(rt, b": ");
-    answers::five(
-        rt,
-        setting.n,
-        setting.m,
-        setting.t,
-        setting.b,
-        setting.bound,
-    );
+    match given {
+        Ok(setting) => answers::five(
+            rt,
+            setting.n,
+            setting.m,
+            setting.t,
+            setting.b,
+            setting.bound,
+        ),
+        Err(_) => answers::five(rt, 0, 0, 0, 0, 0),
+    }
     answers::checked(rt, given);
 }
 
 pub(crate) fn house_list(rt: &impl Print) {
-    listed(rt, 0);
-    listed(rt, 1);
-    listed(rt, 2);
-    listed(rt, 3);
-    listed(rt, 4);
-    listed(rt, 5);
+    for number in 0..6 {
+        listed(rt, number);
+    }
 }

@@ -12,6 +12,8 @@ ghost use Rattle.digits.specs.Digits.{row_digits};
 ghost use Rattle.small_rows.specs.Small.{Within, SmallMatrix, SmallBlocks};
 ghost use Rattle.small_rows.specs.Columns.{by_columns};
 
+use challenges::Challenge;
+
 // x * y modulo 2^64.
 #[unsafe(no_mangle)]
 pub extern "C" fn product_word(x: u64, y: u64) -> u64
@@ -70,9 +72,7 @@ pub extern "C" fn product_d(d: &[i64], c: &[u8], n: usize, t: usize, out: &mut [
     ensures { out.new
         ≡ table t t (both_sides n (challenge t c.now) (mirrored d.now)) }
 {
-    let tt = [0u64; 0];
-    let mut none = [0u64; 0];
-    challenge_folds::fold_instance(&tt, d, c, 0, n, 0, 1, t, &mut none, out);
+    challenge_folds::fold_instance(&[], d, Challenge::plain(c, n, t), 0, &mut [], out);
 }
 
 // S': s, m by n, times a challenge c, n by t.
@@ -83,5 +83,5 @@ pub extern "C" fn product_s(s: &[i64], c: &[u8], m: usize, n: usize, t: usize, o
     ensures { out.new
         ≡ table m t (product n (signed n s.now) (challenge t c.now)) }
 {
-    challenge_folds::fold_digits(s, c, m, n, 0, 1, t, out);
+    challenge_folds::fold_digits(s, Challenge::plain(c, n, t), m, out);
 }

@@ -6,7 +6,7 @@
 ghost use Rattle.std.specs.Prelude.{◌≡◌};
 ghost use Rattle.settings.specs.HouseList.{parameters};
 ghost use Rattle.lova.specs.Stored.{counted};
-ghost use Rattle.lova.specs.Lent.{instance_before, instance_after, prepared_before, prepared_after};
+ghost use Rattle.lova.specs.Lent.{as_instance, as_prepared};
 ghost use Rattle.lova.specs.Commit.{commit};
 ghost use Rattle.lova.specs.Message.{message};
 ghost use Rattle.lova.specs.Witness.{witness};
@@ -28,14 +28,14 @@ pub extern "C" fn lova_commit(
     d_out: &mut [i64],
     leaves_out: &mut u32,
 ) -> u8
-    ensures { returned result (counted (instance_after t_out.new d_out.new) leaves_out.new)
+    ensures { returned result (counted (as_instance t_out.new d_out.new) leaves_out.new)
         ≡ coded (placed leaves_out.old (commit (parameters n m t b bound) a.now
-        s.now (instance_before t_out.old d_out.old))) }
+        s.now (as_instance t_out.old d_out.old))) }
 {
     let setting = codes::setting_of(n, m, t, b, bound);
     let made = commitments::commit(setting, Profile::General, a, s, t_out, d_out);
     *leaves_out = codes::count_of_made(made, *leaves_out);
-    codes::code_of_made(made)
+    codes::code_of_answer(made)
 }
 
 // Message: writes V, T~, D~ and the digit witness S~ of the witnesses s1 and s2. Refusals 1 to 8.
@@ -54,9 +54,9 @@ pub extern "C" fn lova_message(
     dd: &mut [i64],
     ss: &mut [i64],
 ) -> u8
-    ensures { returned result (prepared_after v.new tt.new dd.new ss.new)
+    ensures { returned result (as_prepared v.new tt.new dd.new ss.new)
         ≡ coded (message (parameters n m t b bound) a.now s1.now s2.now
-        (prepared_before v.old tt.old dd.old ss.old)) }
+        (as_prepared v.old tt.old dd.old ss.old)) }
 {
     let setting = codes::setting_of(n, m, t, b, bound);
     let answer = messages::message(setting, Profile::General, a, s1, s2, v, tt, dd, ss);

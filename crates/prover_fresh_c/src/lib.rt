@@ -7,7 +7,7 @@ ghost use Rattle.std.specs.Prelude.{◌≡◌};
 ghost use Rattle.settings.specs.HouseList.{parameters};
 ghost use Rattle.lova.specs.declared.Profile.TheVariants.{Fresh};
 ghost use Rattle.lova.specs.Stored.{counted};
-ghost use Rattle.lova.specs.Lent.{instance_before, instance_after, prepared_before, prepared_after};
+ghost use Rattle.lova.specs.Lent.{as_instance, as_prepared};
 ghost use Rattle.lova.specs.Commit.{commit_in};
 ghost use Rattle.lova.specs.Message.{message_in};
 ghost use Rattle.lova.specs.Witness.{witness_in};
@@ -29,14 +29,14 @@ pub extern "C" fn lova_commit_fresh(
     d_out: &mut [i64],
     leaves_out: &mut u32,
 ) -> u8
-    ensures { returned result (counted (instance_after t_out.new d_out.new) leaves_out.new)
+    ensures { returned result (counted (as_instance t_out.new d_out.new) leaves_out.new)
         ≡ coded (placed leaves_out.old (commit_in (parameters n m t b bound) Fresh a.now
-        s.now (instance_before t_out.old d_out.old))) }
+        s.now (as_instance t_out.old d_out.old))) }
 {
     let setting = codes::setting_of(n, m, t, b, bound);
     let made = commitments::commit(setting, Profile::Fresh, a, s, t_out, d_out);
     *leaves_out = codes::count_of_made(made, *leaves_out);
-    codes::code_of_made(made)
+    codes::code_of_answer(made)
 }
 
 // Message: writes V, T~, D~ and the digit witness S~ of the witness s1 and the vector s2. Refusals 1 to 8.
@@ -55,9 +55,9 @@ pub extern "C" fn lova_message_fresh(
     dd: &mut [i64],
     ss: &mut [i64],
 ) -> u8
-    ensures { returned result (prepared_after v.new tt.new dd.new ss.new)
+    ensures { returned result (as_prepared v.new tt.new dd.new ss.new)
         ≡ coded (message_in (parameters n m t b bound) Fresh a.now s1.now s2.now
-        (prepared_before v.old tt.old dd.old ss.old)) }
+        (as_prepared v.old tt.old dd.old ss.old)) }
 {
     let setting = codes::setting_of(n, m, t, b, bound);
     let answer = messages::message(setting, Profile::Fresh, a, s1, s2, v, tt, dd, ss);

@@ -7,6 +7,7 @@ use mathlib.Core.List.{List, [], ◌∷◌}
 use Prim.Native.Nat.{ℕ, ◌<◌, ◌≤◌}
 use native.Mathlib.Omega.{arith}
 use native.Mathlib.Decide.{ℕ_discrete}
+use Rattle.std.specs.Prelude.{Result, Ok, Err}
 use lib.Dec.{T, not_T, eqb, leb, leb→le, le→leb, nleb→lt}
 use lib.IntN.{ℤ, pos, nat_abs}
 use lib.ListN.{length, get_or}
@@ -19,7 +20,7 @@ use Rattle.settings.proofs.Rules.{first-at, none-applies}
 use Rattle.settings.proofs.Refusals.{Says, says, says_in}
 use Rattle.lova.proofs.Tests.{eqb_iff}
 use Rattle.quadratic_forms.specs.Forms.{zeros}
-use Rattle.quadratic_forms.specs.Counts.{row_range, largest_entry, is_triangle, entries_inside, count_rules, count_refusal, Meaning, count, refused, answer, EntryOutside, Proper}
+use Rattle.quadratic_forms.specs.Counts.{row_range, largest_entry, is_triangle, entries_inside, count_rules, count_refusal, answer, EntryOutside, Proper}
 
 -- the ways out of the code's tests
 module _ (N : ℕ) (e : List ℤ) where
@@ -103,48 +104,48 @@ refusal-exactly N e =
 -- ---- the answer
 
 -- the number of a refusal; 0 for a count
-number_of : Meaning → ℕ
-number_of (count n) = 0
-number_of (refused r) = r
+number_said : Result ℕ ℕ → ℕ
+number_said (Ok n) = 0
+number_said (Err r) = r
 
 module _ (N : ℕ) (fits : Bool) (e : List ℤ) where
-  pub says-refused : count_refusal N fits e ≢ 0 → refused (count_refusal N fits e) ≡ answer N fits e
+  pub says-refused : count_refusal N fits e ≢ 0 → Err (count_refusal N fits e) ≡ answer N fits e
   unfolding answer
   says-refused ne = rw (ne_eqb (count_refusal N fits e) 0 ne) refl
 
-  pub says-count : count_refusal N fits e ≡ 0 → count (zeros N (mirrored e)) ≡ answer N fits e
+  pub says-count : count_refusal N fits e ≡ 0 → Ok (zeros N (mirrored e)) ≡ answer N fits e
   unfolding answer
   says-count z = rw (eq-eqb (count_refusal N fits e) 0 z) refl
 
-  number_is : number_of (answer N fits e) ≡ count_refusal N fits e
-  unfolding number_of
+  number_is : number_said (answer N fits e) ≡ count_refusal N fits e
+  unfolding number_said
   number_is = go (ℕ_discrete (count_refusal N fits e) 0)
     where
-      go : Dec (count_refusal N fits e ≡ 0) → number_of (answer N fits e) ≡ count_refusal N fits e
-      go (yes z) = ap number_of (sym (says-count z)) ∙ sym z
-      go (no f) = ap number_of (sym (says-refused f))
+      go : Dec (count_refusal N fits e ≡ 0) → number_said (answer N fits e) ≡ count_refusal N fits e
+      go (yes z) = ap number_said (sym (says-count z)) ∙ sym z
+      go (no f) = ap number_said (sym (says-refused f))
 
   -- a number is given exactly where it is the first that applies, and the count where none does; P says when
   module _ {P : Type 0} where
-    pub refused-by : (r : ℕ) → r ≢ 0 → (count_refusal N fits e ≡ r) ↔ P → (answer N fits e ≡ refused r) ↔ P
-    unfolding number_of
+    pub refused-by : (r : ℕ) → r ≢ 0 → (count_refusal N fits e ≡ r) ↔ P → (answer N fits e ≡ Err r) ↔ P
+    unfolding number_said
     refused-by r ne when = (
-      (λ a. when.0 (sym number_is ∙ ap number_of a)),
-      (λ p. let f = when.1 p in sym (says-refused (λ z. ne (sym f ∙ z))) ∙ ap refused f),
+      (λ a. when.0 (sym number_is ∙ ap number_said a)),
+      (λ p. let f = when.1 p in sym (says-refused (λ z. ne (sym f ∙ z))) ∙ ap Err f),
     )
 
-    pub count_by : (count_refusal N fits e ≡ 0) ↔ P → (answer N fits e ≡ count (zeros N (mirrored e))) ↔ P
-    unfolding number_of
-    count_by when = ((λ a. when.0 (sym number_is ∙ ap number_of a)), (λ p. sym (says-count (when.1 p))))
+    pub count_by : (count_refusal N fits e ≡ 0) ↔ P → (answer N fits e ≡ Ok (zeros N (mirrored e))) ↔ P
+    unfolding number_said
+    count_by when = ((λ a. when.0 (sym number_is ∙ ap number_said a)), (λ p. sym (says-count (when.1 p))))
 
   -- it is one of these
-  pub no_other : (answer N fits e ≡ count (zeros N (mirrored e))) ⊎ ((answer N fits e ≡ refused 24) ⊎ ((answer N fits e ≡ refused 7) ⊎ (answer N fits e ≡ refused 25)))
+  pub no_other : (answer N fits e ≡ Ok (zeros N (mirrored e))) ⊎ ((answer N fits e ≡ Err 24) ⊎ ((answer N fits e ≡ Err 7) ⊎ (answer N fits e ≡ Err 25)))
   unfolding answer count_refusal first_of
   no_other = go (within row_range N) fits (entries_inside e)
     where
       go : (a b c : Bool) → let r = first_of ((not a gives 24) ∷ (not b gives 7) ∷ (not c gives 25) ∷ []) in
-          let m = cond (eqb r 0) (count (zeros N (mirrored e))) (refused r) in
-          (m ≡ count (zeros N (mirrored e))) ⊎ ((m ≡ refused 24) ⊎ ((m ≡ refused 7) ⊎ (m ≡ refused 25)))
+          let m = cond (eqb r 0) (Ok (zeros N (mirrored e))) (Err r) in
+          (m ≡ Ok (zeros N (mirrored e))) ⊎ ((m ≡ Err 24) ⊎ ((m ≡ Err 7) ⊎ (m ≡ Err 25)))
       go false b c = inr (inl refl)
       go true false c = inr (inr (inl refl))
       go true true false = inr (inr (inr refl))

@@ -4,6 +4,7 @@ use mathlib.Core.Logic.{◌≢◌, ◌↔◌, ◌⊎◌, ⊎_elim}
 use mathlib.Core.List.{List}
 use Prim.Native.Nat.{ℕ, ◌+◌, ◌*◌, ◌^◌, ◌≤◌, ◌<◌}
 use native.Mathlib.Omega.{arith}
+use Rattle.std.specs.Prelude.{Ok, Err}
 use lib.Dec.{T}
 use lib.IntN.{ℤ, pos, ◌+ℤ◌, ◌*ℤ◌}
 use lib.ListN.{length, get_or}
@@ -14,7 +15,7 @@ use Rattle.integers.proofs.Tests.{le_or_lt}
 use Rattle.matrices.specs.Triangles.{triangular, mirrored}
 use Rattle.matrices.proofs.Triangles.{cell_within, cell_of, mirrored-low, mirrored-high, mirrored-symmetric}
 use Rattle.quadratic_forms.specs.Forms.{Vector, vectors, count_of, form, zeros, is_ternary, is_same}
-use Rattle.quadratic_forms.specs.Counts.{row_range, is_triangle, count, refused, count_zeros, EntryOutside, Proper}
+use Rattle.quadratic_forms.specs.Counts.{row_range, is_triangle, count_zeros, EntryOutside, Proper}
 use Rattle.quadratic_forms.proofs.Counts as counts
 use Rattle.quadratic_forms.proofs.Forms as forms
 use Rattle.quadratic_forms.proofs.Listed as listed
@@ -67,21 +68,21 @@ module _ (N : ℕ) (e : List ℤ) where
   -- ---- the answer
 
   -- the count is given exactly for proper calls
-  pub counted : (count_zeros N e ≡ count (zeros N (mirrored e))) ↔ Proper N e
+  pub counted : (count_zeros N e ≡ Ok (zeros N (mirrored e))) ↔ Proper N e
   counted = count_by N (is_triangle N e) e (refusal-exactly N e).none
 
   -- 24 exactly for N outside 1..12
-  pub refused_24 : (count_zeros N e ≡ refused 24) ↔ (In row_range N → ⊥)
+  pub refused_24 : (count_zeros N e ≡ Err 24) ↔ (In row_range N → ⊥)
   refused_24 = refused-by N (is_triangle N e) e 24 (λ z. omega arith) (refusal-exactly N e).rows
 
   -- 7 exactly for another length, where N is in its range
-  pub refused_7 : (count_zeros N e ≡ refused 7) ↔ (In row_range N × (length e ≢ triangular N))
+  pub refused_7 : (count_zeros N e ≡ Err 7) ↔ (In row_range N × (length e ≢ triangular N))
   refused_7 = refused-by N (is_triangle N e) e 7 (λ z. omega arith) (refusal-exactly N e).lengths
 
   -- 25 exactly for an entry above 2^52 or below −2^52, where N is in its range and the length fits
-  pub refused_25 : (count_zeros N e ≡ refused 25) ↔ (In row_range N × (length e ≡ triangular N) × EntryOutside e)
+  pub refused_25 : (count_zeros N e ≡ Err 25) ↔ (In row_range N × (length e ≡ triangular N) × EntryOutside e)
   refused_25 = refused-by N (is_triangle N e) e 25 (λ z. omega arith) (refusal-exactly N e).entries
 
   -- there is no other answer
-  pub no_other : (count_zeros N e ≡ count (zeros N (mirrored e))) ⊎ ((count_zeros N e ≡ refused 24) ⊎ ((count_zeros N e ≡ refused 7) ⊎ (count_zeros N e ≡ refused 25)))
+  pub no_other : (count_zeros N e ≡ Ok (zeros N (mirrored e))) ⊎ ((count_zeros N e ≡ Err 24) ⊎ ((count_zeros N e ≡ Err 7) ⊎ (count_zeros N e ≡ Err 25)))
   no_other = refusals.no_other N (is_triangle N e) e

@@ -1,11 +1,9 @@
 -- Document 02, request 12: what a cheating prover can count on.
-use Rattle.std.specs.Prelude.{◌≡◌, Bool, not, cond, List, [], ◌∷◌, ℕ, ◌^◌, ◌<◌, ◌≤◌, eqb, leb, ℤ, pos, nat_abs, length, get_or}
+use Rattle.std.specs.Prelude.{◌≡◌, Bool, not, cond, List, [], ◌∷◌, ℕ, ◌^◌, ◌<◌, ◌≤◌, eqb, leb, ℤ, pos, nat_abs, length, get_or, Result, Ok, Err}
 use Rattle.integers.specs.Tests.{all}
 use Rattle.integers.specs.Ranges.{Range, ◌to◌, within, In}
 use Rattle.matrices.specs.Triangles.{triangular, mirrored}
 use Rattle.settings.specs.Rules.{Rule, ◌gives◌, first_of}
-use Rattle.quadratic_forms.specs.declared.Counted.{Counted}
-use Rattle.quadratic_forms.specs.declared.Counted.TheVariants as Cases
 use Rattle.quadratic_forms.specs.Forms.{zeros}
 
 -- E has 1 to 12 rows
@@ -32,22 +30,12 @@ count_rules N fits e = (not (within row_range N) gives 24) ∷ (not fits gives 7
 unfoldable pub count_refusal : ℕ → Bool → List ℤ → ℕ
 count_refusal N fits e = first_of (count_rules N fits e)
 
--- what an answer says: the count, or a refusal with its number
-pub data Meaning : Type 0 where
-  count : ℕ → Meaning
-  refused : ℕ → Meaning
-
--- what each case of the code's answer says
-unfoldable pub meaning_of : Counted → Meaning
-meaning_of (Cases.Count n) = count n
-meaning_of (Cases.Refused r) = refused r
-
 -- the answer for a symmetric matrix, given as its lower triangle e: its count, or the first number that applies
-unfoldable pub answer : ℕ → Bool → List ℤ → Meaning
-answer N fits e = cond (eqb (count_refusal N fits e) 0) (count (zeros N (mirrored e))) (refused (count_refusal N fits e))
+unfoldable pub answer : ℕ → Bool → List ℤ → Result ℕ ℕ
+answer N fits e = cond (eqb (count_refusal N fits e) 0) (Ok (zeros N (mirrored e))) (Err (count_refusal N fits e))
 
 -- where e alone is lent it has to have the length of the triangle
-abbrev pub count_zeros : ℕ → List ℤ → Meaning
+abbrev pub count_zeros : ℕ → List ℤ → Result ℕ ℕ
 count_zeros N e = answer N (is_triangle N e) e
 
 -- an entry above 2^52 or below −2^52

@@ -3,11 +3,14 @@
 
 ghost use Rattle.std.specs.Prelude.{◌≡◌, ◌+◌, ◌≤◌, pos, nat_abs, length};
 ghost use Rattle.matrices.specs.Triangles.{mirrored};
+ghost use Rattle.settings.specs.Refusals.{number_in, numbered};
 ghost use Rattle.lova.specs.Tests.{eq_Z};
 ghost use Rattle.quadratic_forms.specs.Forms.{tally, zeros_of, zeros};
-ghost use Rattle.quadratic_forms.specs.Counts.{is_triangle, count_refusal, meaning_of, count_zeros, Proper};
+ghost use Rattle.quadratic_forms.specs.Counts.{is_triangle, count_refusal, count_zeros, Proper};
 ghost use Rattle.quadratic_forms.specs.Search.{value_at, last_zeros, terms_of, after_choice, Holds, Terms, Carried};
 ghost use Rattle.quadratic_forms.specs.Search.{LastCarried};
+
+use settings::Refusal;
 
 // The largest number of rows.
 pub const MAX_ROWS: usize = 12;
@@ -15,18 +18,11 @@ pub const MAX_ROWS: usize = 12;
 // The largest size of an entry: 2^52.
 pub const MAX_ENTRY: u64 = 4503599627370496;
 
-// The count, or a refusal.
-#[derive(Clone, Copy)]
-pub enum Counted {
-    Count(u64),
-    Refused(u8),
-}
-
 // 1 for a value that is 0.
 fn tally_zero(value: i64) -> u64
     ensures { result ≡ tally (eq_Z value (pos 0)) }
 {
-    if value == 0 { 1 } else { 0 }
+    u64::from(value == 0)
 }
 
 // How many of the three choices for the only coordinate that is left make the value 0.
@@ -64,10 +60,8 @@ fn choose(e: &[i64], r: usize, c: i64, linear: &[i64], chosen: &mut [i64])
     ensures { Holds r (after_choice e.now r c (terms_of linear.now)) chosen.new }
 {
     let start = r * (r + 1) / 2;
-    let mut j: usize = 0;
-    while j < r {
+    for j in 0..r {
         chosen[j] = linear[j] + c * (2 * e[start + j]);
-        j += 1;
     }
 }
 
@@ -104,40 +98,35 @@ fn zeros_of(n: usize, e: &[i64]) -> u64
     let none: [i64; MAX_ROWS] = [0; MAX_ROWS];
     let mut up: [i64; MAX_ROWS] = [0; MAX_ROWS];
     let mut total = 1 + 2 * tally_zero(e[0]);
-    let mut r: usize = 1;
-    while r < n {
+    for r in 1..n {
         choose(e, r, 1, &none, &mut up);
         let half = zeros_with(e, r, e[r * (r + 1) / 2 + r], &up);
         total += 2 * half;
-        r += 1;
     }
     total
 }
 
-// 24, 7, 25, or 0 where the call is not refused.
-fn refusal(n: usize, e: &[i64]) -> u8
-    ensures { result ≡ count_refusal n (is_triangle n e.now) e.now }
+// The first of the refusals 24, 7 and 25 that applies, if any.
+fn test_form(n: usize, e: &[i64]) -> Result<(), Refusal>
+    ensures { number_in result ≡ count_refusal n (is_triangle n e.now) e.now }
 {
     if !integers::inside(n as u64, 1, MAX_ROWS as u64) {
-        return 24;
+        return Err(Refusal::Rows);
     }
     if e.len() != n * (n + 1) / 2 {
-        return 7;
+        return Err(Refusal::Lengths);
     }
     if !scans::entries_within(e, MAX_ENTRY) {
-        return 25;
+        return Err(Refusal::LargeEntry);
     }
-    0
+    Ok(())
 }
 
 // Counts the ternary vectors c for which c-transposed E c is 0, where E is symmetric, has n rows and is given as its
 // lower triangle by rows. Refusals 24, 7 and 25.
-pub fn count_zeros(n: usize, e: &[i64]) -> Counted
-    ensures { meaning_of result ≡ count_zeros n e.now }
+pub fn count_zeros(n: usize, e: &[i64]) -> Result<u64, Refusal>
+    ensures { numbered result ≡ count_zeros n e.now }
 {
-    let number = refusal(n, e);
-    if number != 0 {
-        return Counted::Refused(number);
-    }
-    Counted::Count(zeros_of(n, e))
+    test_form(n, e)?;
+    Ok(zeros_of(n, e))
 }

@@ -11,7 +11,8 @@ use borrow.Author.Tests.{eq-eqb, ne_eqb}
 use Rattle.integers.specs.Ranges.{within}
 use Rattle.settings.specs.Rules.{first_of}
 use Rattle.codes.specs.Codes.{returned}
-use Rattle.quadratic_forms.specs.Counts.{row_range, is_triangle, count_refusal, Meaning, count, refused, answer, count_zeros}
+use Rattle.std.specs.Prelude.{Result, Ok, Err}
+use Rattle.quadratic_forms.specs.Counts.{row_range, is_triangle, count_refusal, answer, count_zeros}
 use Rattle.quadratic_forms_c.specs.Given.{fits, coded, count_given}
 
 one_written : (xs : List ℕ) (n : ℕ) → length xs ≡ 1 → set xs 0 n ≡ n ∷ []
@@ -30,16 +31,16 @@ module _ (N : ℕ) (e : List ℤ) (out : List ℕ) where
 
   -- with one place the lengths fit where those of the library's call do
   module _ (one : length out ≡ 1) where
-    by_answer : (m : Meaning) → m ≡ count_zeros N e → coded m out ≡ count_given N e out
-    by_answer m a = ap (λ (x : Meaning). coded x out) a ∙ ap (λ (b : Bool). coded (answer N b e) out) same
+    by_answer : (m : Result ℕ ℕ) → m ≡ count_zeros N e → coded m out ≡ count_given N e out
+    by_answer m a = ap (λ (x : Result ℕ ℕ). coded x out) a ∙ ap (λ (b : Bool). coded (answer N b e) out) same
       where
         same : is_triangle N e ≡ fits N e out
         same = rw (eq-eqb (length out) 1 one) (sym (and-true (is_triangle N e)))
 
-    pub count-given : (n : ℕ) → count n ≡ count_zeros N e → returned 0 (set out 0 n) ≡ count_given N e out
+    pub count-given : (n : ℕ) → Ok n ≡ count_zeros N e → returned 0 (set out 0 n) ≡ count_given N e out
     unfolding coded
-    count-given n a = ap (returned 0) (one_written out n one) ∙ by_answer (count n) a
+    count-given n a = ap (returned 0) (one_written out n one) ∙ by_answer (Ok n) a
 
-    pub refused-given : (r : ℕ) → refused r ≡ count_zeros N e → returned r out ≡ count_given N e out
+    pub refused-given : (r : ℕ) → Err r ≡ count_zeros N e → returned r out ≡ count_given N e out
     unfolding coded
-    refused-given r a = by_answer (refused r) a
+    refused-given r a = by_answer (Err r) a

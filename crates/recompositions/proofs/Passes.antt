@@ -18,8 +18,10 @@ use Rattle.matrices.specs.Tables.{table, signed}
 use Rattle.matrices.proofs.Bounds.{entry-squared}
 use Rattle.matrices.proofs.Tables.{row_within, table_cong}
 use Rattle.settings.specs.declared.Setting.{Setting}
+use Rattle.settings.specs.declared.acceptance.AcceptedSetting.{AcceptedSetting}
+use Rattle.settings.specs.Accepted.{parameters_in}
 use Rattle.settings.specs.Rules.{◌gives◌, first_of}
-use Rattle.settings.specs.Settings.{Parameters, parameters_of, k_of}
+use Rattle.settings.specs.Settings.{Parameters, k_of}
 use Rattle.digits.specs.Digits.{digit_of}
 use Rattle.lova.specs.declared.Profile.{Profile}
 use Rattle.lova.specs.Stored.{Witnesses, right_for, columns_of, sent_S~}
@@ -27,7 +29,7 @@ use Rattle.lova.specs.Calls.{Fits, Rebuilt, ShortRecomposed, FollowsRule}
 use Rattle.lova.specs.Fold.{gadget, digit_witness}
 use Rattle.lova.specs.Recompose.{recomposed, witnesses_of, short_recomposed, follows_rule}
 use Rattle.lova.proofs.Gadget.{gadget-right, digit_place}
-use Rattle.lova.proofs.Rebuilding.{rebuilt-accepted, k-is}
+use Rattle.lova.proofs.Rebuilding.{rebuilt-accepted, rebuilt-is, k-is}
 use Rattle.lova.proofs.Tests.{every_iff, eq_Z_iff, rule_iff}
 use Rattle.lova.proofs.Widths.{wide_of}
 use Rattle.digit_entries.specs.Entries.{limit, clamped, follow_rule}
@@ -35,15 +37,21 @@ use Rattle.digit_entries.proofs.Clamped.{clamped-within}
 use Rattle.digit_rows.specs.Rows.{digits_at, read_at, place, entry_at, short_columns, ruled_entries, rows_rules}
 use Rattle.digit_rows.proofs.Blocks.{digits_long, digit_read, entry_read}
 
--- a setting built anew and a profile with its columns on the right: the rows of an S~ of the stated length
-pub rows_long : (s : Setting) → Rebuilt s → (f : Profile) (right : ℕ) → right ≡ right_for s.t f → (S~ : List ℤ) → Fits (sent_S~ (parameters_of s) f) S~
-    → length S~ ≡ s.m * ((s.t + right) * s.k)
-rows_long s whole f right right_is S~ fits = fits ∙ ap (λ (n : ℕ). s.m * n) (sym (wide_of s whole f right right_is))
+-- an accepted setting and a profile with its columns on the right: the rows of an S~ of the stated length
+pub rows_long : (a : AcceptedSetting) (f : Profile) (right : ℕ) → right ≡ right_for a.setting.t f → (S~ : List ℤ) → Fits (sent_S~ (parameters_in a) f) S~
+    → let s = a.setting in length S~ ≡ s.m * ((s.t + right) * s.k)
+rows_long a f right right_is S~ fits = fits ∙ ap (λ (n : ℕ). a.setting.m * n) (sym (wide_of a.setting (rebuilt-is a) f right right_is))
 
-module _ (s : Setting) (whole : Rebuilt s) (f : Profile) (right : ℕ) (right_is : right ≡ right_for s.t f) (S~ : List ℤ)
-    (long : length S~ ≡ s.m * ((s.t + right) * s.k)) where
+module _ (a : AcceptedSetting) (f : Profile) (right : ℕ) (right_is : right ≡ right_for a.setting.t f) (S~ : List ℤ)
+    (long : length S~ ≡ a.setting.m * ((a.setting.t + right) * a.setting.k)) where
+  abbrev s : Setting
+  s = a.setting
+
+  whole : Rebuilt s
+  whole = rebuilt-is a
+
   abbrev p : Parameters
-  p = parameters_of s
+  p = parameters_in a
 
   abbrev wide : ℕ
   wide = s.t + right

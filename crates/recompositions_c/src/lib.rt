@@ -4,7 +4,7 @@
 ghost use Rattle.std.specs.Prelude.{◌≡◌};
 ghost use Rattle.settings.specs.HouseList.{parameters};
 ghost use Rattle.lova.specs.declared.Profile.TheVariants.{General, Fresh};
-ghost use Rattle.lova.specs.Lent.{witnesses_before, witnesses_after};
+ghost use Rattle.lova.specs.Lent.{as_witnesses};
 ghost use Rattle.lova.specs.Recompose.{recompose_in};
 ghost use Rattle.codes.specs.Codes.{returned, coded};
 
@@ -22,8 +22,8 @@ pub extern "C" fn lova_recompose(
     s1: &mut [i64],
     s2: &mut [i64],
 ) -> u8
-    ensures { returned result (witnesses_after s1.new s2.new)
-        ≡ coded (recompose_in (parameters n m t b bound) General ss.now (witnesses_before s1.old s2.old)) }
+    ensures { returned result (as_witnesses s1.new s2.new)
+        ≡ coded (recompose_in (parameters n m t b bound) General ss.now (as_witnesses s1.old s2.old)) }
 {
     let setting = codes::setting_of(n, m, t, b, bound);
     let answer = recompositions::recompose(setting, Profile::General, ss, s1, s2);
@@ -42,8 +42,8 @@ pub extern "C" fn lova_recompose_fresh(
     s1: &mut [i64],
     v: &mut [i64],
 ) -> u8
-    ensures { returned result (witnesses_after s1.new v.new)
-        ≡ coded (recompose_in (parameters n m t b bound) Fresh ss.now (witnesses_before s1.old v.old)) }
+    ensures { returned result (as_witnesses s1.new v.new)
+        ≡ coded (recompose_in (parameters n m t b bound) Fresh ss.now (as_witnesses s1.old v.old)) }
 {
     let setting = codes::setting_of(n, m, t, b, bound);
     let answer = recompositions::recompose(setting, Profile::Fresh, ss, s1, v);

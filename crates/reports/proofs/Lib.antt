@@ -1,1 +1,2 @@
 mod Instances
+pub mod Words

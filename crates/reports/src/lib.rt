@@ -1,4 +1,6 @@
 // The lines that the chain program prints for a leaf and a fold, each written to the start of a buffer.
+// Within a line the buffer and the place, as in `numeral_writers`: its parts are put one after the other into one lent
+// buffer, with no heap, and a struct of both would only be taken apart by the writers of numerals.
 #![tactic(auto)]
 
 ghost use Rattle.std.specs.Prelude.{◌≡◌, [], ◌∷◌, ◌+◌, ◌*◌, ◌≤◌, length, take};
@@ -8,6 +10,7 @@ ghost use Rattle.lova.specs.Answers.{verdict_of};
 ghost use Rattle.chain.specs.Reports.{instance_text, word_of, leaf_text, fold_text};
 
 use lova::Verdict;
+use settings::Refusal;
 
 // The numbers of t and d and the leaf count, a tab before each, from `at` on, and a line feed; answers the place past
 // it.
@@ -24,19 +27,18 @@ fn put_instance(out: &mut [u8], at: usize, t: &[u64], d: &[i64], leaves: u64) ->
     after_leaves + 1
 }
 
-// A tab and the word of a verdict, from `at` on; answers the place past it.
-fn put_verdict(out: &mut [u8], at: usize, verdict: Verdict) -> usize
-    requires { at + 16 ≤ length out.old }
-    ensures { (result ≡ at + length (tabbed (word_of (verdict_of verdict) ∷ [])))
-        × (out.new ≡ written out.old at (tabbed (word_of (verdict_of verdict) ∷ [])))
-        × (result ≤ at + 16) }
+// The word of a verdict.
+#[tactic(auto, using(crate::proofs::Words::words))]
+fn verdict_word(verdict: Result<Verdict, Refusal>) -> &'static [u8]
+    ensures word { result.now ≡ word_of (verdict_of verdict) }
+    ensures short { length result.now ≤ 15 }
 {
     match verdict {
-        Verdict::Yes(_) => field_writers::put_bytes(out, at, b"\tyes"),
-        Verdict::Long => field_writers::put_bytes(out, at, b"\tlong"),
-        Verdict::Norm => field_writers::put_bytes(out, at, b"\tnorm"),
-        Verdict::Commitment => field_writers::put_bytes(out, at, b"\tcommitment"),
-        Verdict::Refused(_) => field_writers::put_bytes(out, at, b"\trefused"),
+        Ok(Verdict::Yes(_)) => b"yes",
+        Ok(Verdict::Long) => b"long",
+        Ok(Verdict::Norm) => b"norm",
+        Ok(Verdict::Commitment) => b"commitment",
+        Err(_) => b"refused",
     }
 }
 
@@ -55,7 +57,7 @@ pub fn put_leaf(out: &mut [u8], number: u64, t: &[u64], d: &[i64], leaves: u64) 
 pub fn put_fold(
     out: &mut [u8],
     number: u64,
-    verdict: Verdict,
+    verdict: Result<Verdict, Refusal>,
     t: &[u64],
     d: &[i64],
     leaves: u64,
@@ -67,6 +69,6 @@ pub fn put_fold(
 {
     let word = field_writers::put_bytes(out, 0, b"fold");
     let after_number = field_writers::put_number(out, word, number);
-    let after_verdict = put_verdict(out, after_number, verdict);
+    let after_verdict = field_writers::put_word(out, after_number, verdict_word(verdict));
     put_instance(out, after_verdict, t, d, leaves)
 }

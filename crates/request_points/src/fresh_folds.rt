@@ -1,8 +1,8 @@
 // A fold whose second witness is the one vector FRESH, at house 2, beside the general fold of that vector repeated:
 // join, T', D' and S' are the same. k = 4, N = 16, and a fresh S~ has 12 columns. Outputs hold 111, -222 or -333
 // before.
-use lova::Profile;
-use settings::Setting;
+use lova::{Instance, Message, Profile};
+use settings::{Refusal, Setting};
 use shown::{lines, print};
 
 const A: [u64; 64] = [
@@ -30,209 +30,115 @@ const C: [u8; 32] = [
     0, 1, 2, 0, 2, 0, 2, 0, 1, 0, 0, 0, 1, 2, 0, 0, 1, 1, 0, 0, 2, 0, 0, 0, 0, 0, 0, 2, 0, 1, 1, 0,
 ];
 
-pub(crate) fn points(rt: &impl Print) {
-    given(rt, &A, &S1, &REPEATED, &FRESH, &C);
-}
-
-fn house() -> Setting {
-    let given = Setting::listed(2);
-    given.setting
-}
-
-fn given(rt: &impl Print, a: &[u64], s1: &[i64], repeated: &[i64], vector: &[i64], c: &[u8]) {
-    let mut t1 = [111u64; 8];
-    let mut d1 = [-222i64; 4];
-    lines::commit(rt, house(), Profile::General, a, s1, &mut t1, &mut d1);
+pub(crate) fn points(rt: &impl Print) -> Result<(), Refusal> {
+    let house = Setting::listed(2)?;
+    let first = lines::committed::<8, 4>(rt, house, Profile::General, &A, &S1);
     print::text(rt, b"the vector repeated\n");
-    general(rt, a, s1, repeated, c, &t1, &d1);
+    general(rt, house, first.lent());
     print::text(rt, b"the fresh vector\n");
-    fresh(rt, a, s1, vector, c, &t1, &d1);
+    fresh(rt, house, first.lent());
     print::text(rt, b"general lengths in fresh calls\n");
-    lengths(rt, a, repeated, c, &t1, &d1);
+    lengths(rt, house, first.lent());
+    Ok(())
 }
 
-fn general(rt: &impl Print, a: &[u64], s1: &[i64], s2: &[i64], c: &[u8], t1: &[u64], d1: &[i64]) {
-    let mut t2 = [111u64; 8];
-    let mut d2 = [-222i64; 4];
-    lines::commit(rt, house(), Profile::General, a, s2, &mut t2, &mut d2);
-    general_message(rt, a, s1, s2, c, t1, d1, &t2, &d2);
-}
-
-fn general_message(
-    rt: &impl Print,
-    a: &[u64],
-    s1: &[i64],
-    s2: &[i64],
-    c: &[u8],
-    t1: &[u64],
-    d1: &[i64],
-    t2: &[u64],
-    d2: &[i64],
-) {
-    let mut v = [-222i64; 4];
-    let mut tt = [111u64; 64];
-    let mut dd = [-222i64; 136];
-    let mut ss = [-333i64; 256];
-    let given = messages::message(
-        house(),
-        Profile::General,
-        a,
-        s1,
-        s2,
-        &mut v,
-        &mut tt,
-        &mut dd,
-        &mut ss,
-    );
-    lines::message(rt, given, &v, &tt, &ss);
+fn general(rt: &impl Print, house: Setting, first: Instance) {
+    let second = lines::committed::<8, 4>(rt, house, Profile::General, &A, &REPEATED);
+    let made = lines::prepared::<4, 64, 136, 256>(rt, house, Profile::General, &A, &S1, &REPEATED);
     folded(
         rt,
+        house,
         Profile::General,
-        a,
-        c,
-        t1,
-        d1,
-        t2,
-        d2,
-        &v,
-        &tt,
-        &dd,
-        &ss,
+        first,
+        second.lent(),
+        made.lent(),
+        &made.ss,
     );
 }
 
-fn fresh(rt: &impl Print, a: &[u64], s1: &[i64], s2: &[i64], c: &[u8], t1: &[u64], d1: &[i64]) {
-    let mut t2 = [111u64; 4];
-    let mut d2 = [-222i64; 1];
-    lines::commit(rt, house(), Profile::Fresh, a, s2, &mut t2, &mut d2);
-    fresh_message(rt, a, s1, s2, c, t1, d1, &t2, &d2);
-}
-
-fn fresh_message(
-    rt: &impl Print,
-    a: &[u64],
-    s1: &[i64],
-    s2: &[i64],
-    c: &[u8],
-    t1: &[u64],
-    d1: &[i64],
-    t2: &[u64],
-    d2: &[i64],
-) {
-    let mut v = [-222i64; 2];
-    let mut tt = [111u64; 48];
-    let mut dd = [-222i64; 78];
-    let mut ss = [-333i64; 192];
-    let given = messages::message(
-        house(),
+fn fresh(rt: &impl Print, house: Setting, first: Instance) {
+    let second = lines::committed::<4, 1>(rt, house, Profile::Fresh, &A, &FRESH);
+    let made = lines::prepared::<2, 48, 78, 192>(rt, house, Profile::Fresh, &A, &S1, &FRESH);
+    folded(
+        rt,
+        house,
         Profile::Fresh,
-        a,
-        s1,
-        s2,
-        &mut v,
-        &mut tt,
-        &mut dd,
-        &mut ss,
+        first,
+        second.lent(),
+        made.lent(),
+        &made.ss,
     );
-    lines::message(rt, given, &v, &tt, &ss);
-    folded(rt, Profile::Fresh, a, c, t1, d1, t2, d2, &v, &tt, &dd, &ss);
 }
 
-// Join, the fold by c, and its end.
+// Join, the fold by C, and its end.
 fn folded(
     rt: &impl Print,
+    house: Setting,
     profile: Profile,
-    a: &[u64],
-    c: &[u8],
-    t1: &[u64],
-    d1: &[i64],
-    t2: &[u64],
-    d2: &[i64],
-    v: &[i64],
-    tt: &[u64],
-    dd: &[i64],
+    first: Instance,
+    second: Instance,
+    message: Message,
     ss: &[i64],
 ) {
     let mut t = [111u64; 8];
     let mut d = [-222i64; 4];
     let mut s = [-333i64; 32];
-    joined(rt, profile, t1, d1, t2, d2, v);
+    joined(rt, house, profile, first, second, message.v);
     print::text(rt, b"fold");
     lines::verdict(
-        rt,
-        house(),
-        profile,
-        t1,
-        d1,
-        t2,
-        d2,
-        v,
-        tt,
-        dd,
-        c,
-        &mut t,
-        &mut d,
+        rt, house, profile, first, second, message, &C, &mut t, &mut d,
     );
-    lines::folded_witness(rt, house(), profile, ss, c, &mut s);
-    lines::relation_test(rt, house(), a, &t, &d, &s);
+    lines::folded_witness(rt, house, profile, ss, &C, &mut s);
+    lines::relation_test(rt, house, &A, &t, &d, &s);
 }
 
 fn joined(
     rt: &impl Print,
+    house: Setting,
     profile: Profile,
-    t1: &[u64],
-    d1: &[i64],
-    t2: &[u64],
-    d2: &[i64],
+    first: Instance,
+    second: Instance,
     v: &[i64],
 ) {
     let mut t = [111u64; 16];
     let mut d = [-222i64; 16];
-    let given = joins::join(house(), profile, t1, d1, 1, t2, d2, 1, v, &mut t, &mut d);
+    let given = joins::join(house, profile, first, second, v, &mut t, &mut d);
     lines::join(rt, given, &t, &d);
 }
 
 // The length that a general call has, of v, S~, D2, V and D~ in turn, in a fresh call: 7.
-fn lengths(rt: &impl Print, a: &[u64], repeated: &[i64], c: &[u8], t1: &[u64], d1: &[i64]) {
-    let mut t = [111u64; 4];
-    let mut d = [-222i64; 1];
+fn lengths(rt: &impl Print, house: Setting, first: Instance) {
     let mut s = [-333i64; 32];
-    lines::commit(rt, house(), Profile::Fresh, a, repeated, &mut t, &mut d);
-    lines::folded_witness(rt, house(), Profile::Fresh, &[0; 256], c, &mut s);
-    judged(rt, c, t1, d1, &[0; 4], &[0; 4], &[0; 2], &[0; 48], &[0; 78]);
-    judged(rt, c, t1, d1, &[0; 4], &[0; 1], &[0; 4], &[0; 48], &[0; 78]);
-    judged(
-        rt, c, t1, d1, &[0; 4], &[0; 1], &[0; 2], &[0; 48], &[0; 136],
-    );
+    let _ = lines::committed::<4, 1>(rt, house, Profile::Fresh, &A, &REPEATED);
+    lines::folded_witness(rt, house, Profile::Fresh, &[0; 256], &C, &mut s);
+    judged(rt, house, first, &[0; 4], &[0; 2], &[0; 78]);
+    judged(rt, house, first, &[0; 1], &[0; 4], &[0; 78]);
+    judged(rt, house, first, &[0; 1], &[0; 2], &[0; 136]);
 }
 
-// The fresh verdict on these.
-fn judged(
-    rt: &impl Print,
-    c: &[u8],
-    t1: &[u64],
-    d1: &[i64],
-    t2: &[u64],
-    d2: &[i64],
-    v: &[i64],
-    tt: &[u64],
-    dd: &[i64],
-) {
+// The fresh verdict on these, with zeros for T2 and T~ of the lengths that it asks for.
+fn judged(rt: &impl Print, house: Setting, first: Instance, d2: &[i64], v: &[i64], dd: &[i64]) {
     let mut t = [111u64; 8];
     let mut d = [-222i64; 4];
+    let second = Instance {
+        t: &[0; 4],
+        d: d2,
+        leaves: 1,
+    };
+    let message = Message {
+        v,
+        tt: &[0; 48],
+        dd,
+    };
     print::text(rt, b"fold");
     lines::verdict(
         rt,
-        house(),
+        house,
         Profile::Fresh,
-        t1,
-        d1,
-        t2,
-        d2,
-        v,
-        tt,
-        dd,
-        c,
+        first,
+        second,
+        message,
+        &C,
         &mut t,
         &mut d,
     );

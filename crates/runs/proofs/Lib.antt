@@ -1,5 +1,5 @@
-pub mod ChallengeLines
-pub mod LeafLines
-pub mod Matrices
-pub mod ParamLines
+mod FoldLines
+mod LeafLines
 mod Lines
+mod Matrices
+mod ParamLines

@@ -1,15 +1,16 @@
 -- What a line comes to, by what is due.
 use mathlib.Core.Path.{◌≡◌, refl, sym, ◌∙◌, ap}
-use mathlib.Core.List.{List}
+use mathlib.Core.List.{List, []}
 use Prim.Native.Nat.{ℕ, ◌≤◌, ◌<◌}
 use borrow.Author.Tests.{le-leb, lt-leb}
 use lib.ListN.{length}
 use Rattle.line_machines.specs.Machines.{line_step}
 use Rattle.chain.specs.Chain.{State, Step, take_due, take_line, bad_line}
-use Rattle.states.specs.Lent.{Store, stage_of, state_of, step_of, line_due}
+use Rattle.states.specs.Held.{stage_of, state_of, step_of, line_due}
 use Rattle.states.specs.declared.Due.{Due}
 use Rattle.states.specs.declared.Due.TheVariants as Dues
-use Rattle.states.specs.declared.Run.{Run}
+use Rattle.states.specs.declared.runs.Run.{Run}
+use Rattle.states.specs.declared.stores.Store.{Store}
 
 module _ (s : State) (line : List ℕ) where
   line-short : length line ≤ 4095 → take_line s line ≡ take_due s.counts s.stage line
@@ -25,9 +26,9 @@ module _ (r : Run) (m : Store) (line : List ℕ) (short : length line ≤ 4095) 
   pub take-due : (due : Due) → r.due ≡ due → (s : Step) → s ≡ line_due due r m line → s ≡ take_line (state_of r m) line
   take-due due e s come = come ∙ ap (λ (d : Due). line_due d r m line) (sym e) ∙ sym (line-short (state_of r m) line short)
 
-  nothing-due : (out : List ℕ) → r.due ≡ Dues.Nothing → step_of (record { run = r; length = 0 }) m out ≡ line_due r.due r m line
+  nothing-due : r.due ≡ Dues.Nothing → step_of r m [] ≡ line_due r.due r m line
   unfolding stage_of take_due
-  nothing-due out e = rw e refl
+  nothing-due e = rw e refl
 
-  pub take-nothing : (out : List ℕ) → r.due ≡ Dues.Nothing → step_of (record { run = r; length = 0 }) m out ≡ take_line (state_of r m) line
-  take-nothing out e = take-due r.due refl _ (nothing-due out e)
+  pub take-nothing : r.due ≡ Dues.Nothing → step_of r m [] ≡ take_line (state_of r m) line
+  take-nothing e = take-due r.due refl _ (nothing-due e)

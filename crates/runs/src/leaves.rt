@@ -1,92 +1,120 @@
 // The record `leaf`. A line that is refused changes no matrix.
-ghost use Rattle.std.specs.Prelude.{◌≡◌};
-ghost use Rattle.chain.specs.Nodes.{node_of, node_before, node_after};
-ghost use Rattle.states.specs.Lent.{Whatever, with_A, with_leaf, under_after, step_of, line_due};
-ghost use Rattle.states.specs.Lent.{Set, LeafDue, LentNode, Ready, Safe};
+ghost use Rattle.std.specs.Prelude.{◌≡◌, ◌^◌, ◌<◌, ◌≤◌, take};
+ghost use Rattle.chain.specs.Reports.{leaf_line};
+ghost use Rattle.chain.specs.Small.{numbers_in};
+ghost use Rattle.states.specs.Held.{node_in, step_of, line_due, Safe};
 ghost use Rattle.states.specs.declared.Due.TheVariants as Dues;
+ghost use Rattle.runs.specs.Leaves.{LeafRead};
 
-use lova::Made;
-use states::{Due, Run, Taken};
+use chain::SmallSetting;
+use lova::Profile;
+use settings::Refusal;
+use states::{Due, Run, Slot, Store};
 
-// The record `leaf`: the run state goes in with it, and is handed back with what comes of its line.
+// A leaf by commit: its node, and the leaves under it.
 #[derive(Clone, Copy)]
-pub(crate) struct Leaf {
-    pub run: Run,
+struct Leaf {
+    slot: Slot,
+    count: u32,
 }
 
-// The leaves under the accumulated node after a leaf with this count: it is that node where a further leaf is due.
-fn under_after(due: Due, leaves: u32, under: u32) -> u32
-    ensures { result ≡ under_after due leaves under }
+// The leaf of a line `leaf` with m×t entries, or what refuses the line.
+fn read(small: SmallSetting, line: &[u8], a: &[u64; 128]) -> Result<Leaf, Refusal>
+    ensures { LeafRead (numbers_in small) a.now line.now result }
 {
-    match due {
-        Due::Leaf => leaves,
-        _ => under,
+    let setting = small.accepted.setting;
+    let size_a = setting.n * setting.m;
+    let size_t = setting.n * setting.t;
+    let size_d = setting.t * setting.t;
+    let size_s = setting.m * setting.t;
+    let mut t = [0u64; 16];
+    let mut d = [0i64; 4];
+    let mut s = [0i64; 32];
+    if !field_readers::read_i64s(line, b"leaf", &mut s[..size_s]) {
+        return Err(Refusal::BadLine);
+    }
+    let count = commitments::commit(
+        setting,
+        Profile::General,
+        &a[..size_a],
+        &s[..size_s],
+        &mut t[..size_t],
+        &mut d[..size_d],
+    )?;
+    Ok(Leaf {
+        slot: Slot { t, d, s },
+        count,
+    })
+}
+
+// Writes the line of the leaf in a slot, and answers its length.
+fn put(number: u64, small: SmallSetting, slot: &Slot, leaves: u32, out: &mut [u8; 512]) -> usize
+    ensures { let p = numbers_in small in (result ≤ 512)
+        × (take result out.new ≡ leaf_line p number (node_in p slot.now leaves).instance) }
+{
+    let setting = small.accepted.setting;
+    let size_t = setting.n * setting.t;
+    let size_d = setting.t * setting.t;
+    reports::put_leaf(
+        out,
+        number,
+        &slot.t[..size_t],
+        &slot.d[..size_d],
+        leaves as u64,
+    )
+}
+
+// The first leaf becomes the accumulated node.
+pub(crate) fn take_first(
+    run: &mut Run,
+    small: SmallSetting,
+    line: &[u8],
+    store: &mut Store,
+    out: &mut [u8; 512],
+) -> usize
+    requires { run.old.line < 2 ^ 62 }
+    ensures taken { step_of run.new store.new (take result out.new)
+        ≡ line_due (Dues.First small) run.old store.old line.now }
+    ensures safe { Safe run.old run.new result }
+    ensures unchanged { run.new.due ≡ Dues.Nothing → store.new ≡ store.old }
+{
+    match read(small, line, &store.a) {
+        Err(refusal) => run.refuse(refusal.number(), out),
+        Ok(leaf) => {
+            store.first = leaf.slot;
+            run.due = Due::Leaf(small);
+            run.line += 1;
+            run.leaves += 1;
+            run.under = leaf.count;
+            put(run.leaves, small, &leaf.slot, leaf.count, out)
+        }
     }
 }
 
-impl Leaf {
-    // `leaf` with m×t entries, into the node t, d, s; `due` comes after it.
-    pub(crate) fn take(
-        self,
-        line: &[u8],
-        due: Due,
-        a: &[u64],
-        t: &mut [u64],
-        d: &mut [i64],
-        s: &mut [i64],
-        out: &mut [u8],
-    ) -> Taken
-        requires ready { Ready self.run out.old }
-        requires set { Set self.run.setting × LeafDue self.run.due due }
-        requires lent_node { LentNode a.now (node_of t.old d.old 0 s.old) }
-        ensures whatever { Whatever (λ m.
-            step_of result (with_leaf due (node_after t.new d.new 0 s.new) (with_A a.now m)) out.new
-            ≡ line_due self.run.due self.run (with_A a.now m) line.now) }
-        ensures safe { Safe result self.run }
-        ensures s_value { result.run.due ≡ Dues.Nothing
-            → node_after t.new d.new 0 s.new ≡ node_before t.old d.old 0 s.old }
-    {
-        let state = self.run;
-        let setting = state.setting;
-        let size_a = setting.n * setting.m;
-        let size_t = setting.n * setting.t;
-        let size_d = setting.t * setting.t;
-        let size_s = setting.m * setting.t;
-        let mut read = [0i64; 32];
-        if !field_readers::read_i64s(line, b"leaf", &mut read[..size_s]) {
-            return state.refuse(13, out);
-        }
-        let answer = crate::leaf_nodes::leaf(
-            setting,
-            &a[..size_a],
-            &read[..size_s],
-            &mut t[..size_t],
-            &mut d[..size_d],
-            &mut s[..size_s],
-        );
-        match answer {
-            Made::Refused(number) => state.refuse(number, out),
-            Made::Done(leaves) => {
-                let length = reports::put_leaf(
-                    out,
-                    state.leaves + 1,
-                    &t[..size_t],
-                    &d[..size_d],
-                    leaves as u64,
-                );
-                let run = Run {
-                    due: due,
-                    line: state.line + 1,
-                    leaves: state.leaves + 1,
-                    folds: state.folds,
-                    under: under_after(due, leaves, state.under),
-                    setting: setting,
-                };
-                Taken {
-                    run: run,
-                    length: length,
-                }
-            }
+// A further leaf waits for its challenge.
+// As `take_first`, but not one function with it: the slot, what is due next and what is under the node all differ, and
+// one for both would have to be told all three.
+pub(crate) fn take_further(
+    run: &mut Run,
+    small: SmallSetting,
+    line: &[u8],
+    store: &mut Store,
+    out: &mut [u8; 512],
+) -> usize
+    requires { run.old.line < 2 ^ 62 }
+    ensures taken { step_of run.new store.new (take result out.new)
+        ≡ line_due (Dues.Leaf small) run.old store.old line.now }
+    ensures safe { Safe run.old run.new result }
+    ensures unchanged { run.new.due ≡ Dues.Nothing → store.new ≡ store.old }
+{
+    match read(small, line, &store.a) {
+        Err(refusal) => run.refuse(refusal.number(), out),
+        Ok(leaf) => {
+            store.second = leaf.slot;
+            run.due = Due::Challenge(small);
+            run.line += 1;
+            run.leaves += 1;
+            put(run.leaves, small, &leaf.slot, leaf.count, out)
         }
     }
 }

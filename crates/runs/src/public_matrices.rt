@@ -1,49 +1,35 @@
 // The record `a`, the public matrix. A line that is refused changes nothing.
-ghost use Rattle.std.specs.Prelude.{◌≡◌};
-ghost use Rattle.lova.specs.Stored.{matrix_A};
-ghost use Rattle.lova.specs.Calls.{Fits};
-ghost use Rattle.chain.specs.Limits.{largest};
-ghost use Rattle.states.specs.Lent.{Whatever, with_A, step_of, line_due, Set, Ready, Safe};
+ghost use Rattle.std.specs.Prelude.{◌≡◌, ◌^◌, ◌<◌, take};
+ghost use Rattle.states.specs.Held.{Whatever, with_A, step_of, line_due, Safe};
 ghost use Rattle.states.specs.declared.Due.TheVariants as Dues;
 
-use states::{Due, Run, Taken};
+use chain::SmallSetting;
+use settings::{Refusal, Setting};
+use states::{Due, Run};
 
-// The record `a`: the run state goes in with it, and is handed back with what comes of its line.
-#[derive(Clone, Copy)]
-pub(crate) struct Matrix {
-    pub run: Run,
-}
-
-impl Matrix {
-    // `a` with n×m entries.
-    pub(crate) fn take(self, line: &[u8], a: &mut [u64], out: &mut [u8]) -> Taken
-        requires ready { Ready self.run out.old }
-        requires set { Set self.run.setting × Fits (matrix_A largest) a.old }
-        ensures whatever { Whatever (λ m.
-            step_of result (with_A a.new m) out.new
-            ≡ line_due Dues.Matrix self.run m line.now) }
-        ensures safe { Safe result self.run }
-        ensures a_unchanged { result.run.due ≡ Dues.Nothing → a.new ≡ a.old }
-    {
-        let state = self.run;
-        let setting = state.setting;
-        let size = setting.n * setting.m;
-        let mut read = [0u64; 128];
-        if !field_readers::read_u64s(line, b"a", &mut read[..size]) {
-            return state.refuse(13, out);
-        }
-        copies::copy_words(&read[..size], &mut a[..size]);
-        let run = Run {
-            due: Due::First,
-            line: state.line + 1,
-            leaves: state.leaves,
-            folds: state.folds,
-            under: state.under,
-            setting: setting,
-        };
-        Taken {
-            run: run,
-            length: 0,
-        }
+// `a` with n×m entries.
+pub(crate) fn take(
+    run: &mut Run,
+    small: SmallSetting,
+    line: &[u8],
+    a: &mut [u64; 128],
+    out: &mut [u8; 512],
+) -> usize
+    requires { run.old.line < 2 ^ 62 }
+    ensures whatever { Whatever (λ m.
+        step_of run.new (with_A a.new m) (take result out.new)
+        ≡ line_due (Dues.Matrix small) run.old m line.now) }
+    ensures safe { Safe run.old run.new result }
+    ensures unchanged { run.new.due ≡ Dues.Nothing → a.new ≡ a.old }
+{
+    let Setting { n, m, .. } = small.accepted.setting;
+    let size = n * m;
+    let mut read = [0u64; 128];
+    if !field_readers::read_u64s(line, b"a", &mut read[..size]) {
+        return run.refuse(Refusal::BadLine.number(), out);
     }
+    a[..size].copy_from_slice(&read[..size]);
+    run.due = Due::First(small);
+    run.line += 1;
+    0
 }

@@ -1,14 +1,18 @@
 -- What an accepted setting has, and how the constructor's answer is read.
 use mathlib.Core.Path.{◌≡◌, refl, sym, ap, subst, ◌∙◌}
 use mathlib.Core.Logic.{◌≢◌}
+use Rattle.std.specs.Prelude.{Ok, Err}
 use Prim.Native.Nat.{ℕ, zero, suc, ◌+◌, ◌-◌, ◌*◌, ◌^◌, ◌≤◌, ◌<◌}
 use native.Mathlib.Omega.{arith, by_contra}
 use native.Mathlib.Decide.{ℕ_discrete}
 use native.Mathlib.Nat.{le_refl, mul-le-mul, mul-le-mul_left, mul-le-mul_right, pow-le-pow_right, add_assoc}
 use lib.Pow.{pow-add}
 use borrow.Author.Tests.{eq-eqb, ne_eqb}
-use Rattle.settings.specs.declared.Checked.{Checked}
-use Rattle.settings.specs.Settings.{Parameters, limits, LOf, k_of, h_of, HOf, NOf, growth_of, repunit, width_of, setting_refusal, setting_of, accepted_of, refused_of, checked_of}
+use Rattle.settings.specs.Settings.{Parameters, limits, LOf, k_of, h_of, HOf, NOf, growth_of, repunit, width_of, setting_refusal, setting_of, parameters_of, checked_of}
+use Rattle.settings.specs.declared.Setting.{Setting}
+use Rattle.settings.specs.declared.refused.Refusal.{Refusal}
+use Rattle.settings.specs.Refusals.{number_of}
+use Rattle.settings.proofs.Numbers.{numbered-some}
 use Rattle.settings.proofs.Refusals.{Meets, refusal-exactly}
 use Rattle.settings.proofs.PowerSteps.{pow_two}
 use Rattle.settings.proofs.Levels.{L_above}
@@ -157,22 +161,35 @@ pub accepted : (p : Parameters) → setting_refusal p ≡ 0 → Accepted p
 accepted p e = meets_accepted p ((refusal-exactly p).none.0 e)
 
 -- the constructor's answer for an accepted setting, and for a refused one
-pub checked_accepted : (p : Parameters) → setting_refusal p ≡ 0 → checked_of p ≡ accepted_of (setting_of p)
+pub checked_accepted : (p : Parameters) → setting_refusal p ≡ 0 → checked_of p ≡ Ok (setting_of p)
 unfolding checked_of
 checked_accepted p e = rw (eq-eqb (setting_refusal p) 0 e) refl
 
-pub checked_refused : (p : Parameters) → setting_refusal p ≢ 0 → checked_of p ≡ refused_of (setting_refusal p)
+pub checked_refused : (p : Parameters) → setting_refusal p ≢ 0 → checked_of p ≡ Err (setting_refusal p)
 unfolding checked_of
 checked_refused p ne = rw (ne_eqb (setting_refusal p) 0 ne) refl
 
--- its number is always the refusal
-pub checked_number : (p : Parameters) → (checked_of p).refusal ≡ setting_refusal p
-checked_number p = go (ℕ_discrete (setting_refusal p) 0)
-  where
-    go : Dec (setting_refusal p ≡ 0) → (checked_of p).refusal ≡ setting_refusal p
-    go (yes e) = ap (λ (c : Checked). c.refusal) (checked_accepted p e) ∙ sym e
-    go (no ne) = ap (λ (c : Checked). c.refusal) (checked_refused p ne)
+-- the answer for a refusal
+pub refusal-checked : (p : Parameters) (r : Refusal) → number_of r ≡ setting_refusal p → Err (number_of r) ≡ checked_of p
+refusal-checked p r e = rw e (sym (checked_refused p (λ z. numbered-some r (e ∙ z))))
 
--- and an accepted setting stands beside it
-pub checked_setting : (p : Parameters) → setting_refusal p ≡ 0 → (checked_of p).setting ≡ setting_of p
-checked_setting p e = ap (λ (c : Checked). c.setting) (checked_accepted p e)
+-- a setting in the answer is that of the five numbers, which are accepted
+pub from_ok : (p : Parameters) (s : Setting) → Ok s ≡ checked_of p → (setting_refusal p ≡ 0) × (s ≡ setting_of p)
+from_ok p s is = go (ℕ_discrete (setting_refusal p) 0)
+  where
+    go : Dec (setting_refusal p ≡ 0) → (setting_refusal p ≡ 0) × (s ≡ setting_of p)
+    go (yes e) = let both : Ok s ≡ Ok (setting_of p) = is ∙ checked_accepted p e in (e, grind arith)
+    go (no ne) = let both : Ok s ≡ Err (setting_refusal p) = is ∙ checked_refused p ne in absurd (grind arith)
+
+pub ok_accepted : (p : Parameters) (s : Setting) → Ok s ≡ checked_of p → (setting_refusal (parameters_of s) ≡ 0) × (s ≡ setting_of (parameters_of s))
+ok_accepted p s is =
+    let e = from_ok p s is in
+    subst (λ (s : Setting). (setting_refusal (parameters_of s) ≡ 0) × (s ≡ setting_of (parameters_of s))) (sym e.1) (e.0, refl)
+
+-- and a number is that of the first refusal that applies
+pub from_err : (p : Parameters) (r : ℕ) → Err r ≡ checked_of p → (setting_refusal p ≢ 0) × (r ≡ setting_refusal p)
+from_err p r is = go (ℕ_discrete (setting_refusal p) 0)
+  where
+    go : Dec (setting_refusal p ≡ 0) → (setting_refusal p ≢ 0) × (r ≡ setting_refusal p)
+    go (yes e) = let both : Err r ≡ Ok (setting_of p) = is ∙ checked_accepted p e in absurd (grind arith)
+    go (no ne) = let both : Err r ≡ Err (setting_refusal p) = is ∙ checked_refused p ne in (ne, grind arith)

@@ -5,12 +5,13 @@ use Prim.Native.Nat.{ℕ, ◌-◌, ◌<◌}
 use native.Mathlib.Omega.{arith}
 use lib.Dec.{T, eqb, eqb→eq}
 use lib.ListN.{get_or}
+use Rattle.std.specs.Prelude.{Err}
 use borrow.Author.Tests.{le-leb, not-true}
 use Rattle.integers.specs.Lists.{every}
 use Rattle.integers.proofs.Lists.{every-at}
 use Rattle.integers.specs.Ranges.{within, ◌to◌, In}
 use Rattle.settings.specs.Rules.{first_of}
-use Rattle.settings.specs.Settings.{Parameters, greatest, LOf, repunit, setting_refusal, refused_of, checked_of}
+use Rattle.settings.specs.Settings.{Parameters, greatest, LOf, repunit, setting_refusal, checked_of}
 use Rattle.settings.specs.HouseList.{parameters, house_list, listed_of}
 use Rattle.settings.proofs.Refusals.{says_in}
 use Rattle.settings.proofs.Accepted.{checked_accepted}
@@ -37,6 +38,6 @@ listed_inside number h =
     rw (le-leb 1 number h.0, le-leb number 4 h.1) (sym (checked_accepted (row (number - 1)) (house_accepted (number - 1) (omega arith))))
 
 -- and any other number gets 12
-pub listed_outside : (number : ℕ) → (In (1 to 4) number → ⊥) → listed_of number ≡ refused_of 12
+pub listed_outside : (number : ℕ) → (In (1 to 4) number → ⊥) → listed_of number ≡ Err 12
 unfolding listed_of
 listed_outside number n = rw (not-true (within (1 to 4) number) ((says_in (1 to 4) number).applies.1 n)) refl

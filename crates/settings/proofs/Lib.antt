@@ -6,3 +6,4 @@ pub mod Refusals
 pub mod Accepted
 pub mod HouseList
 pub mod Points
+pub mod Numbers

@@ -1,8 +1,8 @@
 -- The house list of document 01.
-use Rattle.std.specs.Prelude.{cond, List, [], ◌∷◌, ℕ, ◌-◌, length, get_or}
+use Rattle.std.specs.Prelude.{cond, List, [], ◌∷◌, ℕ, ◌-◌, length, get_or, Result, Ok, Err}
 use Rattle.integers.specs.Ranges.{within, ◌to◌}
-use Rattle.settings.specs.Settings.{Parameters, setting_of, accepted_of, refused_of}
-use Rattle.settings.specs.declared.Checked.{Checked}
+use Rattle.settings.specs.Settings.{Parameters, setting_of}
+use Rattle.settings.specs.declared.Setting.{Setting}
 
 abbrev pub parameters : ℕ → ℕ → ℕ → ℕ → ℕ → Parameters
 parameters n m t b bound = record { n = n; m = m; t = t; b = b; bound = bound }
@@ -17,8 +17,8 @@ house_list =
     ∷ []
 
 -- the answer for a number of the list: its setting, or 12 for a number outside 1..4
-unfoldable pub listed_of : ℕ → Checked
+unfoldable pub listed_of : ℕ → Result Setting ℕ
 listed_of number =
     cond (within (1 to length house_list) number)
-    (accepted_of (setting_of (get_or house_list (number - 1) (parameters 0 0 0 0 0))))
-    (refused_of 12)
+    (Ok (setting_of (get_or house_list (number - 1) (parameters 0 0 0 0 0))))
+    (Err 12)

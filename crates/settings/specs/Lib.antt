@@ -1,3 +1,5 @@
 pub mod Rules
 pub mod Settings
+pub mod Refusals
 pub mod HouseList
+pub mod Accepted

@@ -1,10 +1,9 @@
 -- Document 01, "Setting": the five numbers, what they fix, and when they are refused.
-use Rattle.std.specs.Prelude.{Bool, not, cond, ◌&&◌, List, [], ◌∷◌, ℕ, zero, suc, ◌+◌, ◌*◌, ◌-◌, ◌/◌, ◌^◌, leb, ltb, eqb, replicate}
+use Rattle.std.specs.Prelude.{Bool, not, cond, ◌&&◌, List, [], ◌∷◌, ℕ, zero, suc, ◌+◌, ◌*◌, ◌-◌, ◌/◌, ◌^◌, leb, ltb, eqb, Result, Ok, Err}
 use Rattle.integers.specs.Lists.{build}
 use Rattle.integers.specs.Ranges.{Range, ◌to◌, within}
 use Rattle.settings.specs.Rules.{Rule, ◌gives◌, first_of}
 use Rattle.settings.specs.declared.Setting.{Setting}
-use Rattle.settings.specs.declared.Checked.{Checked}
 
 -- the five numbers n, m, t, b and B
 pub record Parameters : Type 0 where
@@ -105,16 +104,6 @@ setting_of p = record {
 abbrev pub parameters_of : Setting → Parameters
 parameters_of s = record { n = s.n; m = s.m; t = s.t; b = s.b; bound = s.bound }
 
--- what stands beside a refusal's number: a record of zeros
-abbrev pub no_setting : Setting
-no_setting = record { n = 0; m = 0; t = 0; b = 0; bound = 0; k = 0; columns = 0; powers = replicate places 0 }
-
-abbrev pub accepted_of : Setting → Checked
-accepted_of s = record { refusal = 0; setting = s }
-
-abbrev pub refused_of : ℕ → Checked
-refused_of r = record { refusal = r; setting = no_setting }
-
 -- the answer for five numbers: the first refusal that applies, or the setting
-unfoldable pub checked_of : Parameters → Checked
-checked_of p = cond (eqb (setting_refusal p) 0) (accepted_of (setting_of p)) (refused_of (setting_refusal p))
+unfoldable pub checked_of : Parameters → Result Setting ℕ
+checked_of p = cond (eqb (setting_refusal p) 0) (Ok (setting_of p)) (Err (setting_refusal p))

@@ -10,6 +10,7 @@ pub(crate) fn level(b: u64, bound: u64) -> usize
     ensures { (b ^ (2 * result) ≤ bound) × (bound < b ^ (2 * (result + 1))) }
 {
     let square = b * b;
+    // By a product a level: `ilog` divides at each, and took up to nineteen times as long.
     let mut power: u64 = 1;
     let mut l: usize = 0;
     while power <= bound / square {
@@ -26,11 +27,9 @@ pub(crate) fn powers_of(b: u64, k: usize) -> [u64; Setting::POWERS]
 {
     let mut powers = [0u64; Setting::POWERS];
     let mut power: u64 = 1;
-    let mut p: usize = 0;
-    while p < k {
+    for p in 0..k {
         powers[p] = power;
         power *= b;
-        p += 1;
     }
     powers
 }
@@ -41,10 +40,8 @@ pub(crate) fn repunit_of(b: u64, k: usize) -> u64
     ensures { result * (b - 1) + 1 ≡ b ^ k }
 {
     let mut r: u64 = 0;
-    let mut p: usize = 0;
-    while p < k {
+    for _p in 0..k {
         r = r * b + 1;
-        p += 1;
     }
     r
 }

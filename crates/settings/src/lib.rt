@@ -3,10 +3,17 @@
 
 ghost use Rattle.std.specs.Prelude.{◌≡◌, ◌&&◌};
 ghost use Rattle.integers.specs.Ranges.{within};
-ghost use Rattle.settings.specs.Settings.{limits, setting_refusal, parameters_of, refused_of, checked_of};
+ghost use Rattle.settings.specs.Settings.{limits, setting_refusal, parameters_of, checked_of};
 ghost use Rattle.settings.specs.HouseList.{parameters, listed_of};
+ghost use Rattle.settings.specs.Refusals.{number_in, numbered};
+ghost use Rattle.settings.specs.Accepted.{accepted_as};
 
+mod acceptance;
 mod bounds;
+mod refused;
+
+pub use acceptance::AcceptedSetting;
+pub use refused::Refusal;
 
 // The five numbers of a setting, with what they fix: k digits to an entry, N columns of a digit witness, the powers of
 // b.
@@ -20,14 +27,6 @@ pub struct Setting {
     pub k: usize,
     pub columns: usize,
     pub powers: [u64; Setting::POWERS],
-}
-
-// The number of a refusal, or 0 and the setting. (An enum cannot hold the array.) Beside a refusal all of the setting
-// is zero.
-#[derive(Clone, Copy)]
-pub struct Checked {
-    pub refusal: u8,
-    pub setting: Setting,
 }
 
 impl Setting {
@@ -116,69 +115,56 @@ impl Setting {
     ];
 
     // The setting of five numbers, or the first of the refusals 1 to 6 that applies to them.
-    pub fn new(n: usize, m: usize, t: usize, b: u64, bound: u64) -> Checked
-        ensures { result ≡ checked_of (parameters n m t b bound) }
+    pub fn new(n: usize, m: usize, t: usize, b: u64, bound: u64) -> Result<Setting, Refusal>
+        ensures { numbered result ≡ checked_of (parameters n m t b bound) }
     {
-        let number = refusal(n, m, t, b, bound);
-        if number != 0 {
-            return refused(number);
-        }
+        test_limits(n, m, t, b, bound)?;
         let k = bounds::level(b, bound) + 2;
         let powers = bounds::powers_of(b, k);
-        Checked {
-            refusal: 0,
-            setting: Setting {
-                n: n,
-                m: m,
-                t: t,
-                b: b,
-                bound: bound,
-                k: k,
-                columns: 2 * k * t,
-                powers: powers,
-            },
-        }
+        Ok(Setting {
+            n,
+            m,
+            t,
+            b,
+            bound,
+            k,
+            columns: 2 * k * t,
+            powers,
+        })
     }
 
-    // The setting of this one's five numbers, whatever its k, N and powers say, or the first of 1 to 6: what every
-    // operation begins with.
-    pub fn rebuilt(self) -> Checked
-        ensures { result ≡ checked_of (parameters_of self) }
+    // The setting of this one's five numbers, whatever its k, N and powers say, or the first of 1 to 6.
+    pub fn rebuilt(self) -> Result<Setting, Refusal>
+        ensures { numbered result ≡ checked_of (parameters_of self) }
     {
         Setting::new(self.n, self.m, self.t, self.b, self.bound)
     }
 
+    // The same as a setting that was accepted: what every operation begins with.
+    pub fn accepted(self) -> Result<AcceptedSetting, Refusal>
+        ensures { accepted_as result ≡ checked_of (parameters_of self) }
+    {
+        AcceptedSetting::new(self.n, self.m, self.t, self.b, self.bound)
+    }
+
     // A setting of the house list, or refusal 12 for a number outside 1..4.
-    pub fn listed(number: usize) -> Checked
-        ensures { result ≡ listed_of number }
+    pub fn listed(number: usize) -> Result<Setting, Refusal>
+        ensures { numbered result ≡ listed_of number }
     {
         if !integers::inside(number as u64, 1, Setting::LISTED as u64) {
-            return refused(12);
+            return Err(Refusal::NotListed);
         }
-        let setting = Setting::LIST[number - 1];
-        Checked {
-            refusal: 0,
-            setting: setting,
-        }
+        Ok(Setting::LIST[number - 1])
     }
 }
 
-// A refusal's number beside a setting of zeros.
-fn refused(number: u8) -> Checked
-    ensures { result ≡ refused_of number }
-{
-    Checked {
-        refusal: number,
-        setting: Setting {
-            n: 0,
-            m: 0,
-            t: 0,
-            b: 0,
-            bound: 0,
-            k: 0,
-            columns: 0,
-            powers: [0; Setting::POWERS],
-        },
+impl AcceptedSetting {
+    // The setting of five numbers, or the first of the refusals 1 to 6 that applies to them.
+    pub fn new(n: usize, m: usize, t: usize, b: u64, bound: u64) -> Result<AcceptedSetting, Refusal>
+        ensures { accepted_as result ≡ checked_of (parameters n m t b bound) }
+    {
+        let setting = Setting::new(n, m, t, b, bound)?;
+        Ok(AcceptedSetting { setting })
     }
 }
 
@@ -191,30 +177,30 @@ fn sizes_inside(n: usize, m: usize, t: usize) -> bool
         && integers::inside(t as u64, Setting::MIN_T as u64, Setting::MAX_T as u64)
 }
 
-// The first of the refusals 1 to 6 that applies, or 0.
-fn refusal(n: usize, m: usize, t: usize, b: u64, bound: u64) -> u8
-    ensures { result ≡ setting_refusal (parameters n m t b bound) }
+// The first of the refusals 1 to 6 that applies, if any.
+fn test_limits(n: usize, m: usize, t: usize, b: u64, bound: u64) -> Result<(), Refusal>
+    ensures { number_in result ≡ setting_refusal (parameters n m t b bound) }
 {
     if !sizes_inside(n, m, t) {
-        return 1;
+        return Err(Refusal::Sizes);
     }
     if !integers::inside(b, Setting::MIN_B, Setting::MAX_B) {
-        return 2;
+        return Err(Refusal::Base);
     }
     if !integers::inside(bound, Setting::MIN_BOUND, Setting::MAX_BOUND) {
-        return 3;
+        return Err(Refusal::Bound);
     }
     let k = bounds::level(b, bound) + 2;
     let columns = 2 * k * t;
     if Setting::MAX_COLUMNS < columns {
-        return 4;
+        return Err(Refusal::Columns);
     }
     let h = b / 2;
     if !bounds::grows_within(columns, h, m, bound) {
-        return 5;
+        return Err(Refusal::Growth);
     }
     if !bounds::wide_within(m, h, bounds::repunit_of(b, k), Setting::MAX_WIDTH) {
-        return 6;
+        return Err(Refusal::Width);
     }
-    0
+    Ok(())
 }

@@ -1,2 +1,1 @@
-mod Writing
 mod Giving

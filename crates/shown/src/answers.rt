@@ -1,29 +1,25 @@
 // How settings and answers are written.
 use super::print;
-use lova::{Answer, Made, Membership, Verdict};
-use settings::{Checked, Setting};
+use lova::{Membership, Verdict};
+use settings::{Refusal, Setting};
 
 // The five numbers of a setting.
 pub fn five(rt: &impl Print, n: usize, m: usize, t: usize, b: u64, bound: u64) {
-    print::number(rt, b"Setting (", n as u64);
-    print::next(rt, m as u64);
-    print::next(rt, t as u64);
-    print::next(rt, b);
-    print::next(rt, bound);
-    print::text(rt, b")");
+    let _ = print!(rt; "Setting ({n}, {m}, {t}, {b}, {bound})");
 }
 
-fn refused(rt: &impl Print, number: u8) {
-    print::number(rt, b": refused ", number as u64);
+pub fn refused(rt: &impl Print, refusal: Refusal) {
+    print::number(rt, b": refused ", refusal.number());
 }
 
 // The answer of the constructor or of the house list, which ends its line.
-pub fn checked(rt: &impl Print, given: Checked) {
-    if given.refusal != 0 {
-        refused(rt, given.refusal);
-    } else {
-        print::number(rt, b": accepted, k = ", given.setting.k as u64);
-        print::number(rt, b", N = ", given.setting.columns as u64);
+pub fn checked(rt: &impl Print, given: Result<Setting, Refusal>) {
+    match given {
+        Ok(setting) => {
+            print::number(rt, b": accepted, k = ", setting.k);
+            print::number(rt, b", N = ", setting.columns);
+        }
+        Err(refusal) => refused(rt, refusal),
     }
     print::end(rt);
 }
@@ -35,37 +31,37 @@ pub fn asked(rt: &impl Print, n: usize, m: usize, t: usize, b: u64, bound: u64) 
 }
 
 // The answer of message or folded witness.
-pub fn answer(rt: &impl Print, given: Answer) {
+pub fn answer(rt: &impl Print, given: Result<(), Refusal>) {
     match given {
-        Answer::Done => print::text(rt, b": done"),
-        Answer::Refused(r) => refused(rt, r),
+        Ok(()) => print::text(rt, b": done"),
+        Err(refusal) => refused(rt, refusal),
     }
 }
 
 // The answer of commit or join.
-pub fn made(rt: &impl Print, given: Made) {
+pub fn made(rt: &impl Print, given: Result<u32, Refusal>) {
     match given {
-        Made::Done(leaves) => print::number(rt, b": done, leaves: ", leaves as u64),
-        Made::Refused(r) => refused(rt, r),
+        Ok(leaves) => print::number(rt, b": done, leaves: ", leaves),
+        Err(refusal) => refused(rt, refusal),
     }
 }
 
-pub fn verdict(rt: &impl Print, given: Verdict) {
+pub fn verdict(rt: &impl Print, given: Result<Verdict, Refusal>) {
     match given {
-        Verdict::Yes(leaves) => print::number(rt, b": yes, leaves: ", leaves as u64),
-        Verdict::Long => print::text(rt, b": long"),
-        Verdict::Norm => print::text(rt, b": norm"),
-        Verdict::Commitment => print::text(rt, b": commitment"),
-        Verdict::Refused(r) => refused(rt, r),
+        Ok(Verdict::Yes(leaves)) => print::number(rt, b": yes, leaves: ", leaves),
+        Ok(Verdict::Long) => print::text(rt, b": long"),
+        Ok(Verdict::Norm) => print::text(rt, b": norm"),
+        Ok(Verdict::Commitment) => print::text(rt, b": commitment"),
+        Err(refusal) => refused(rt, refusal),
     }
 }
 
-pub fn membership(rt: &impl Print, given: Membership) {
+pub fn membership(rt: &impl Print, given: Result<Membership, Refusal>) {
     match given {
-        Membership::Member => print::text(rt, b": member"),
-        Membership::Long => print::text(rt, b": long"),
-        Membership::Products => print::text(rt, b": products"),
-        Membership::Commitment => print::text(rt, b": commitment"),
-        Membership::Refused(r) => refused(rt, r),
+        Ok(Membership::Member) => print::text(rt, b": member"),
+        Ok(Membership::Long) => print::text(rt, b": long"),
+        Ok(Membership::Products) => print::text(rt, b": products"),
+        Ok(Membership::Commitment) => print::text(rt, b": commitment"),
+        Err(refusal) => refused(rt, refusal),
     }
 }

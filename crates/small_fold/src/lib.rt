@@ -18,11 +18,11 @@ fn dot(p: &[i16], q: &[i16], y: usize, n: usize) -> i64
     ensures { result ≡ dots p.now q.now 0 y n }
 {
     let mut a: i64 = 0;
-    let mut k: usize = 0;
-    while k < n {
+    // By `div_ceil`: `step_by` grew this innermost loop from 25 to 29 instructions, with a second compare.
+    for i in 0..n.div_ceil(32) {
+        let k = i * 32;
         let v = dots::thirty_two(p, q, k, y + k);
-        a = a + (v as i64);
-        k += 32;
+        a += v as i64;
     }
     a
 }
@@ -33,11 +33,8 @@ fn fold_row(p: &[i16], q: &[i16], n: usize, t: usize, out: &mut [i64])
         × (length out.old ≡ t) }
     ensures { out.new ≡ build t (λ j. dots p.now q.now 0 (j * 512) n) }
 {
-    let mut j: usize = 0;
-    while j < t {
-        let x = dot(p, q, j * 512, n);
-        out[j] = x;
-        j += 1;
+    for (j, x) in out.iter_mut().enumerate() {
+        *x = dot(p, q, j * 512, n);
     }
 }
 
@@ -49,13 +46,12 @@ fn packed_fold(s: &[i64], q: &[i16], m: usize, n: usize, t: usize, out: &mut [i6
         ≡ table m t (product n (signed n s.now) (by_columns q.now)) }
 {
     let mut p = [0i16; 512];
-    let mut r: usize = 0;
-    while r < m {
+    // By ranges: there may be no columns, and `chunks_exact` takes no size of 0.
+    for r in 0..m {
         packing::load(s, m, n, r, &mut p[..n]);
         let from = r * t;
         let to = from + t;
         fold_row(&p, q, n, t, &mut out[from..to]);
-        r += 1;
     }
 }
 
@@ -66,19 +62,19 @@ fn plain_fold(s: &[i64], q: &[i16], m: usize, n: usize, t: usize, out: &mut [i64
     ensures { out.new
         ≡ table m t (product n (signed n s.now) (by_columns q.now)) }
 {
-    let mut i: usize = 0;
-    while i < m {
+    // By ranges: there may be no columns, and `chunks_exact` takes no size of 0.
+    for i in 0..m {
         let from = i * n;
         let to = from + n;
         let start = i * t;
         let end = start + t;
         challenges::fold_row(&s[from..to], q, t, &mut out[start..end]);
-        i += 1;
     }
 }
 
 // s, an m by n matrix, times q, which has n rows and t columns of 512 places: S' of the digits S~. A row of fewer than
 // 16 numbers fills less than half of one sum of 32 products.
+// q is a slice and no type, as `challenges` decodes it: an array that is filled in part.
 pub fn small_fold(s: &[i64], q: &[i16], m: usize, n: usize, t: usize, out: &mut [i64])
     requires { SmallMatrix 32767 m n s.now × Within 16 q.now × (t * 512 ≤ length q.now)
         × (length out.old ≡ m * t) }

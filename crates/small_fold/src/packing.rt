@@ -9,10 +9,7 @@ pub(crate) fn load(s: &[i64], m: usize, n: usize, r: usize, p: &mut [i16])
     requires { SmallMatrix 32767 m n s.now × (length p.old ≡ n) }
     ensures { p.new ≡ build n (signed n s.now r) }
 {
-    let mut k: usize = 0;
-    while k < n {
-        let x = small_rows::fetch(s, m, n, r, k);
-        p[k] = x;
-        k += 1;
+    for (k, x) in p.iter_mut().enumerate() {
+        *x = small_rows::fetch(s, m, n, r, k);
     }
 }

@@ -18,11 +18,9 @@ fn add_row(p: &[i16], i: usize, f: i64, row: &mut [i64])
     ensures { row.new ≡ build (i + 1)
         (λ j. get_or row.old j (pos 0) +ℤ f *ℤ block_of p.now i j) }
 {
-    let mut j: usize = 0;
-    while j < row.len() {
+    for (j, x) in row.iter_mut().enumerate() {
         let v = dots::thirty_two(p, p, i * 32, j * 32);
-        row[j] = matrices::add_product(row[j], f, v as i64);
-        j += 1;
+        *x = matrices::add_product(*x, f, v as i64);
     }
 }
 
@@ -34,12 +32,10 @@ fn add_block(p: &[i16], n: usize, f: i64, d: &mut [i64])
         ≡ lower n (mirrored_plus d.old (λ a b. f *ℤ block_of p.now a b)) }
 {
     let mut start: usize = 0;
-    let mut i: usize = 0;
-    while i < n {
+    for i in 0..n {
         let end = start + i + 1;
         add_row(p, i, f, &mut d[start..end]);
         start = end;
-        i += 1;
     }
 }
 
@@ -49,13 +45,11 @@ fn packed_gram(s: &[i64], m: usize, cols: usize, out: &mut [i64])
         × (length out.old ≡ triangular cols) }
     ensures { out.new ≡ lower cols (gram m (signed cols s.now)) }
 {
-    small_rows::clear(out);
+    out.fill(0);
     let mut p = [0i16; 16384];
-    let mut base: usize = 0;
-    while base < m {
+    for base in (0..m).step_by(32) {
         packing::pack(s, m, cols, base, &mut p);
         add_block(&p, cols, 1, out);
-        base += 32;
     }
 }
 

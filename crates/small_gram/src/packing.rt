@@ -12,11 +12,8 @@ fn pack_row(s: &[i64], m: usize, n: usize, base: usize, k: usize, p: &mut [i16])
         p.new }
 {
     let r = base + k;
-    let mut c: usize = 0;
-    while c < n {
-        let x = small_rows::fetch(s, m, n, r, c);
-        p[c * 32 + k] = x;
-        c += 1;
+    for c in 0..n {
+        p[c * 32 + k] = small_rows::fetch(s, m, n, r, c);
     }
 }
 
@@ -27,9 +24,7 @@ pub(crate) fn pack(s: &[i64], m: usize, n: usize, base: usize, p: &mut [i16])
     ensures { Columns 32767 32 n (λ i j. signed n s.now (base + i) j) (32 * n)
         p.new }
 {
-    let mut k: usize = 0;
-    while k < 32 {
+    for k in 0..32 {
         pack_row(s, m, n, base, k, p);
-        k += 1;
     }
 }

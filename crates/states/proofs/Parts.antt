@@ -4,13 +4,13 @@ use mathlib.Core.List.{List, ◌++◌}
 use Prim.Native.Nat.{ℕ, ◌+◌, ◌*◌, ◌≤◌}
 use native.Mathlib.Omega.{arith}
 use lib.IntN.{ℤ}
-use lib.ListN.{length, take, drop, length-append, length-drop, take-append-drop}
+use lib.ListN.{length, take, drop, length-append, length-drop}
 use lib.Seq.{take_at, length-take-le}
 use Rattle.settings.specs.Settings.{Parameters}
 use Rattle.lova.specs.Stored.{matrix_T, matrix_S, matrix_D}
 use Rattle.chain.specs.Limits.{largest}
-use Rattle.chain.specs.Nodes.{Node, node_of}
-use Rattle.states.specs.Lent.{part_node}
+use Rattle.chain.specs.Nodes.{node_of}
+use Rattle.states.specs.Held.{part_node}
 
 pub record Part {A : Type 0} (k : ℕ) (xs ys : List A) : Type 0 where
   pub fits : k ≤ length (ys ++ drop k xs)
@@ -37,23 +37,8 @@ module _ {A : Type 0} (k n : ℕ) (xs : List A) (h : k ≤ n) (l : length xs ≡
         count = simp (length-append, length-drop) (omega arith);
       }
 
--- the lent elements came back as they were
-pub as_it_was : {A : Type 0} (k : ℕ) (xs ys : List A) → ys ≡ take k xs → ys ++ drop k xs ≡ xs
-as_it_was k xs ys e = ap (λ (l : List _). l ++ drop k xs) e ∙ take-append-drop k xs
-
 -- with any leaf count
 module _ (p : Parameters) (T₀ : List ℕ) (D₀ S₀ : List ℤ) (T : List ℕ) (D S : List ℤ) (leaves : ℕ) where
-  -- a node that came back as it was, whatever count was handed back with it
-  pub node_kept : {n n₀ : ℕ} → node_of T D n S ≡ part_node p T₀ D₀ n₀ S₀
-      → node_of (T ++ drop (matrix_T p).size T₀) (D ++ drop (matrix_D p).size D₀) leaves (S ++ drop (matrix_S p).size S₀) ≡ node_of T₀ D₀ leaves S₀
-  node_kept e =
-      rw (
-        as_it_was (matrix_T p).size T₀ T (ap (λ (z : Node). z.instance.instance.T) e),
-        as_it_was (matrix_D p).size D₀ D (ap (λ (z : Node). z.instance.instance.D) e),
-        as_it_was (matrix_S p).size S₀ S (ap (λ (z : Node). z.witness) e),
-      )
-      refl
-
   -- a node that came back stands at the beginning of its slices
   pub node_back : Part (matrix_T p).size T₀ T → Part (matrix_D p).size D₀ D → Part (matrix_S p).size S₀ S
       → part_node p (T ++ drop (matrix_T p).size T₀) (D ++ drop (matrix_D p).size D₀) leaves (S ++ drop (matrix_S p).size S₀) ≡ node_of T D leaves S

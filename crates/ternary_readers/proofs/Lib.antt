@@ -1,1 +1,1 @@
-mod Readers
+pub mod Readers

@@ -1,36 +1,65 @@
--- What the answer on a field says of it as a ternary entry.
-use mathlib.Core.Path.{◌≡◌, sym, ap, ◌∙◌}
-use mathlib.Core.Bool.{true, false}
-use mathlib.Core.List.{List, [], ◌∷◌}
-use mathlib.Core.Option.{some, none}
-use Prim.Native.Nat.{ℕ}
-use Rattle.ternary_readers.specs.declared.Entry.{Entry}
-use Rattle.ternary_readers.specs.declared.Entry.TheVariants.{Byte, Bad}
+-- A field as a ternary entry, by its length and its bytes: `0`, `1`, `-1`, and any other.
+use Rattle.std.specs.Prelude.{◌≡◌, ℕ, Bool, true, false, cond, eqb, List, [], ◌∷◌, Some, None, ◌≤◌, ◌<◌, refl}
+use Rattle.std.proofs.Common.{arith, length, get_or, sym, ◌∙◌}
+use borrow.Author.Tests.{ne_eqb}
 use Rattle.text.specs.Fields.{same, read_ternary}
-use Rattle.ternary_readers.specs.Entries.{byte_of}
 
--- an entry, or none
-pub ternary_bad : (p : Entry) (f : List ℕ) → byte_of p ≡ read_ternary f → p ≡ Bad → read_ternary f ≡ none
-unfolding byte_of
-ternary_bad p f e b = sym e ∙ ap byte_of b
+neither : (b : Bool) → cond b false false ≡ false
+neither true = refl
+neither false = refl
 
-pub ternary_byte : (p : Entry) (f : List ℕ) (x : ℕ) → byte_of p ≡ read_ternary f → p ≡ Byte x → read_ternary f ≡ some x
-unfolding byte_of
-ternary_byte p f x e b = sym e ∙ ap byte_of b
+pub is-zero : (f : List ℕ) → 1 ≤ length f → length f < 2 → get_or f 0 0 ≡ 48 → Some 0 ≡ read_ternary f
+unfolding read_ternary same
+is-zero [] a b e = absurd (omega arith)
+is-zero (x ∷ []) a b e = rw e
+is-zero (x ∷ (y ∷ f)) a b e = absurd (omega arith)
 
--- `0`, `1`, `-1`, and any other field
-pub is-zero : (f : List ℕ) → same f (48 ∷ []) ≡ true → byte_of (Byte 0) ≡ read_ternary f
-unfolding read_ternary byte_of
-is-zero f a = rw a
+pub is_one : (f : List ℕ) → 1 ≤ length f → length f < 2 → get_or f 0 0 ≡ 49 → Some 1 ≡ read_ternary f
+unfolding read_ternary same
+is_one [] a b e = absurd (omega arith)
+is_one (x ∷ []) a b e = rw e
+is_one (x ∷ (y ∷ f)) a b e = absurd (omega arith)
 
-pub is_one : (f : List ℕ) → same f (48 ∷ []) ≡ false → same f (49 ∷ []) ≡ true → byte_of (Byte 1) ≡ read_ternary f
-unfolding read_ternary byte_of
-is_one f a b = rw (a, b)
+pub is-minus-one : (f : List ℕ) → 2 ≤ length f → length f < 3 → get_or f 0 0 ≡ 45 → get_or f 1 0 ≡ 49 → Some 2 ≡ read_ternary f
+unfolding read_ternary same
+is-minus-one [] a b e g = absurd (omega arith)
+is-minus-one (x ∷ []) a b e g = absurd (omega arith)
+is-minus-one (x ∷ (y ∷ [])) a b e g = rw (e, g)
+is-minus-one (x ∷ (y ∷ (z ∷ f))) a b e g = absurd (omega arith)
 
-pub is-minus-one : (f : List ℕ) → same f (48 ∷ []) ≡ false → same f (49 ∷ []) ≡ false → same f (45 ∷ 49 ∷ []) ≡ true → byte_of (Byte 2) ≡ read_ternary f
-unfolding read_ternary byte_of
-is-minus-one f a b c = rw (a, b, c)
+pub no_byte : (f : List ℕ) → length f < 1 → None ≡ read_ternary f
+unfolding read_ternary same
+no_byte [] a = refl
+no_byte (x ∷ f) a = absurd (omega arith)
 
-pub is_none : (f : List ℕ) → same f (48 ∷ []) ≡ false → same f (49 ∷ []) ≡ false → same f (45 ∷ 49 ∷ []) ≡ false → byte_of Bad ≡ read_ternary f
-unfolding read_ternary byte_of
-is_none f a b c = rw (a, b, c)
+pub other_byte : (f : List ℕ) → 1 ≤ length f → length f < 2 → (get_or f 0 0 ≡ 48 → ⊥) → (get_or f 0 0 ≡ 49 → ⊥) → None ≡ read_ternary f
+unfolding read_ternary same
+other_byte [] a b e g = refl
+other_byte (x ∷ []) a b e g = rw (ne_eqb x 48 e, ne_eqb x 49 g, neither (eqb x 45))
+other_byte (x ∷ (y ∷ f)) a b e g = absurd (omega arith)
+
+-- a field of more than one byte is neither `0` nor `1`
+longer : (x y : ℕ) (f : List ℕ) → read_ternary (x ∷ (y ∷ f)) ≡ cond (same (x ∷ (y ∷ f)) (45 ∷ 49 ∷ [])) (Some 2) None
+unfolding read_ternary same
+longer x y f = rw (neither (eqb x 48), neither (eqb x 49))
+
+pub no_minus : (f : List ℕ) → 2 ≤ length f → (get_or f 0 0 ≡ 45 → ⊥) → None ≡ read_ternary f
+unfolding same
+no_minus [] a e = absurd (omega arith)
+no_minus (x ∷ []) a e = absurd (omega arith)
+no_minus (x ∷ (y ∷ f)) a e = sym (longer x y f ∙ rw (ne_eqb x 45 e))
+
+pub not_minus_one : (f : List ℕ) → 2 ≤ length f → length f < 3 → (get_or f 1 0 ≡ 49 → ⊥) → None ≡ read_ternary f
+unfolding same
+not_minus_one [] a b e = absurd (omega arith)
+not_minus_one (x ∷ []) a b e = absurd (omega arith)
+not_minus_one (x ∷ (y ∷ f)) a b e = sym (longer x y f ∙ rw (ne_eqb y 49 e, neither (eqb x 45)))
+
+pub too_long : (f : List ℕ) → 3 ≤ length f → None ≡ read_ternary f
+unfolding same
+too_long [] a = absurd (omega arith)
+too_long (x ∷ []) a = absurd (omega arith)
+too_long (x ∷ (y ∷ [])) a = absurd (omega arith)
+too_long (x ∷ (y ∷ (z ∷ f))) a = sym (longer x y (z ∷ f) ∙ rw (neither (eqb y 49), neither (eqb x 45)))
+
+pub ruleset entries = (is-zero, is_one, is-minus-one, no_byte, other_byte, no_minus, not_minus_one, too_long)

@@ -3,57 +3,33 @@
 
 ghost use Rattle.std.specs.Prelude.{◌≡◌, length};
 ghost use Rattle.text.specs.Fields.{record_of, read_ternary, answer_of};
-ghost use Rattle.ternary_readers.specs.Entries.{byte_of};
 
-// The byte of a ternary entry, or that there is none.
-#[derive(Clone, Copy)]
-enum Entry {
-    Byte(u8),
-    Bad,
-}
+use field_readers::Field;
 
-// The ternary entry that a field is.
-fn parse_ternary(field: &[u8]) -> Entry
-    ensures { byte_of result ≡ read_ternary field.now }
-{
-    if text::equal(field, b"0") {
-        return Entry::Byte(0);
+// Fields that are ternary entries, each read as its byte.
+struct Ternary;
+
+impl Field for Ternary {
+    type Value = u8;
+
+    ghost read = { read_ternary };
+
+    #[tactic(auto, using(crate::proofs::Readers::entries))]
+    fn parse(field: &[u8]) -> Option<u8> {
+        match field {
+            b"0" => Some(0),
+            b"1" => Some(1),
+            b"-1" => Some(2),
+            _ => None,
+        }
     }
-    if text::equal(field, b"1") {
-        return Entry::Byte(1);
-    }
-    if text::equal(field, b"-1") {
-        return Entry::Byte(2);
-    }
-    Entry::Bad
 }
 
 // Reads the ternary entries of a line that begins with the word: as many as `out` holds, and no more.
-// Where it answers false, what `out` holds is not stated.
+// Where it answers false, what `out` holds is not stated. A bool, as in `field_readers`.
 pub fn read_ternary(line: &[u8], word: &[u8], out: &mut [u8]) -> bool
     ensures { answer_of result out.new
         ≡ record_of read_ternary word.now (length out.old) line.now }
 {
-    if !text::begins(line, word) {
-        return false;
-    }
-    let mut at = word.len() + 1;
-    let mut i: usize = 0;
-    while i < out.len() {
-        if line.len() < at {
-            return false;
-        }
-        let end = text::find_tab(line, at);
-        match parse_ternary(&line[at..end]) {
-            Entry::Byte(x) => {
-                out[i] = x;
-            }
-            Entry::Bad => {
-                return false;
-            }
-        }
-        at = end + 1;
-        i += 1;
-    }
-    line.len() < at
+    field_readers::read_fields::<Ternary>(line, word, out)
 }

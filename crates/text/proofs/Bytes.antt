@@ -1,15 +1,17 @@
 -- Byte strings: their equality, and the place of the first tab.
-use mathlib.Core.Path.{◌≡◌, refl, sym, ap, ◌∙◌, subst}
-use mathlib.Core.Bool.{Bool, true, false, cond}
+use mathlib.Core.Path.{◌≡◌, refl, sym, subst}
+use mathlib.Core.Bool.{Bool, true, false, not, cond, ◌&&◌}
 use mathlib.Core.List.{List, [], ◌∷◌}
 use Prim.Native.Nat.{ℕ, suc, ◌+◌, ◌≤◌, ◌<◌}
 use native.Mathlib.Omega.{arith}
-use native.Mathlib.Numerals.{add-one}
 use native.Mathlib.Nat.{le_refl}
-use lib.Dec.{T, eqb}
-use lib.ListN.{length, get_or, drop, drop_of_length-le}
-use lib.Seq.{drop-cons}
-use borrow.Author.Tests.{eq-eqb, ne_eqb, eqb-true}
+use lib.Dec.{T, ltb, eqb}
+use lib.ListN.{length, drop, drop_of_length-le}
+use borrow.Author.Tests.{eq-eqb, eqb-true, ltb-false}
+use Rattle.std.specs.Prelude.{Some, None}
+use Rattle.std.specs.List.{position, position_or_len}
+use Rattle.std.specs.Option.{unwrap_or}
+use Rattle.std.specs.Cmp.Lexicographic.{pointwise}
 use Rattle.text.specs.Fields.{until_tab, same}
 
 pub same_refl : (s : List ℕ) → same s s ≡ true
@@ -28,32 +30,17 @@ same_eq (x ∷ s) (y ∷ t) e = go (eqb x y) refl e (same_eq s t)
     go true p h r = rw (eqb-true x y p, r h)
     go false p h r = absurd (subst T (sym h) tt)
 
--- strings of different lengths, and equal up to i
-pub same-lengths : (s t : List ℕ) → (length s ≡ length t → ⊥) → same s t ≡ false
+-- the library's equality of slices
+pub same_lem : (s t : List ℕ) → pointwise eqb s t ≡ same s t
 unfolding same
-same-lengths [] [] n = absurd (n refl)
-same-lengths [] (y ∷ t) n = refl
-same-lengths (x ∷ s) [] n = refl
-same-lengths (x ∷ s) (y ∷ t) n = go (eqb x y) (same-lengths s t (λ e. n (ap suc e)))
+same_lem [] [] = refl
+same_lem [] (y ∷ t) = refl
+same_lem (x ∷ s) [] = refl
+same_lem (x ∷ s) (y ∷ t) = go (eqb x y) (same_lem s t)
   where
-    go : (b : Bool) → same s t ≡ false → cond b (same s t) false ≡ false
+    go : (b : Bool) → pointwise eqb s t ≡ same s t → (b && pointwise eqb s t) ≡ cond b (same s t) false
     go true r = r
     go false r = refl
-
-module _ (s t : List ℕ) (i : ℕ) (h : i < length s) (k : i < length t) where
-  same_at : same (drop i s) (drop i t) ≡ cond (eqb (get_or s i 0) (get_or t i 0)) (same (drop (i + 1) s) (drop (i + 1) t)) false
-  unfolding same
-  same_at = rw (add-one i, drop-cons s i 0 h, drop-cons t i 0 k)
-
-  pub same_more : get_or s i 0 ≡ get_or t i 0 → same (drop i s) (drop i t) ≡ same (drop (i + 1) s) (drop (i + 1) t)
-  same_more e = same_at ∙ rw (eq-eqb (get_or s i 0) (get_or t i 0) e)
-
-  pub same_differs : (get_or s i 0 ≡ get_or t i 0 → ⊥) → same (drop i s) (drop i t) ≡ false
-  same_differs n = same_at ∙ rw (ne_eqb (get_or s i 0) (get_or t i 0) n)
-
-pub same_end : (s t : List ℕ) (i : ℕ) → length s ≤ i → length t ≤ i → same (drop i s) (drop i t) ≡ true
-unfolding same
-same_end s t i h k = rw (drop_of_length-le s h, drop_of_length-le t k)
 
 -- the first tab from i on
 pub until_within : (s : List ℕ) → until_tab s ≤ length s
@@ -65,14 +52,23 @@ until_within (x ∷ s) = go (eqb x 9) (until_within s)
     go true r = omega arith
     go false r = omega arith
 
-pub until_tab_lem : (s : List ℕ) (i : ℕ) → i < length s → get_or s i 0 ≡ 9 → until_tab (drop i s) ≡ 0
+-- the library's search of an element
+first_tab : (s : List ℕ) → position_or_len (λ b. eqb b 9) s ≡ until_tab s
 unfolding until_tab
-until_tab_lem s i h e = rw (drop-cons s i 0 h, eq-eqb (get_or s i 0) 9 e)
+first_tab [] = refl
+first_tab (x ∷ s) = go (eqb x 9) (first_tab s)
+  where
+    go : (b : Bool) → position_or_len (λ b. eqb b 9) s ≡ until_tab s → cond (not b) (1 + position_or_len (λ b. eqb b 9) s) 0 ≡ cond b 0 (suc (until_tab s))
+    go true r = refl
+    go false r = omega (arith, r)
 
-pub until_more : (s : List ℕ) (i : ℕ) → i < length s → (get_or s i 0 ≡ 9 → ⊥) → i + until_tab (drop i s) ≡ i + 1 + until_tab (drop (i + 1) s)
-unfolding until_tab
-until_more s i h n = rw (add-one i, drop-cons s i 0 h, ne_eqb (get_or s i 0) 9 n) (omega arith)
+pub until_tab_lem : (s : List ℕ) → unwrap_or (position (λ b. eqb b 9) s) (length s) ≡ until_tab s
+until_tab_lem s = rw (first_tab s) (go (ltb (until_tab s) (length s)) refl)
+  where
+    go : (b : Bool) → ltb (until_tab s) (length s) ≡ b → unwrap_or (cond b (Some (until_tab s)) None) (length s) ≡ until_tab s
+    go true e = refl
+    go false e = omega (arith, ltb-false (until_tab s) (length s) e, until_within s)
 
-pub until_end : (s : List ℕ) (i : ℕ) → length s ≤ i → until_tab (drop i s) ≡ 0
+pub until_past : (s : List ℕ) (i : ℕ) → length s < i → until_tab (drop i s) ≡ 0
 unfolding until_tab
-until_end s i h = rw (drop_of_length-le s h)
+until_past s i h = let l : length s ≤ i = omega arith in rw (drop_of_length-le s l)

@@ -2,7 +2,7 @@
 use mathlib.Core.Path.{◌≡◌, refl, sym, ap, ◌∙◌}
 use mathlib.Core.Bool.{Bool, true, false, not, cond}
 use mathlib.Core.List.{List, [], ◌∷◌, ◌++◌, append_assoc, append-nil}
-use mathlib.Core.Option.{Option, some, none}
+use Rattle.std.specs.Prelude.{Option, Some, None}
 use Prim.Native.Nat.{ℕ, suc, ◌+◌, ◌-◌, ◌≤◌, ◌<◌}
 use native.Mathlib.Omega.{arith}
 use native.Mathlib.Numerals.{add-one}
@@ -63,35 +63,35 @@ field_end s at end h e =
 
 -- an answer, told from the side of the caller
 module _ {A : Type 0} (r : Bool) (vs : List A) (o : Option (List A)) (e : answer_of r vs ≡ o) where
-  pub answer_yes : r ≡ true → o ≡ some vs
+  pub answer_yes : r ≡ true → o ≡ Some vs
   unfolding answer_of
   answer_yes h = sym e ∙ ap (λ (b : Bool). answer_of b vs) h
 
-  pub answer_no : r ≡ false → o ≡ none
+  pub answer_no : r ≡ false → o ≡ None
   unfolding answer_of
   answer_no h = sym e ∙ ap (λ (b : Bool). answer_of b vs) h
 
 -- values before those of an answer
 unfoldable pub prepend : {A : Type 0} → List A → Option (List A) → Option (List A)
-prepend vs none = none
-prepend vs (some ws) = some (vs ++ ws)
+prepend vs None = None
+prepend vs (Some ws) = Some (vs ++ ws)
 
 prepend-empty : {A : Type 0} (o : Option (List A)) → o ≡ prepend [] o
 unfolding prepend
-prepend-empty none = refl
-prepend-empty (some vs) = refl
+prepend-empty None = refl
+prepend-empty (Some vs) = refl
 
-prepend-push : {A : Type 0} (vs : List A) (v : A) (o : Option (List A)) → prepend vs (push (some v) o) ≡ prepend (vs ++ (v ∷ [])) o
+prepend-push : {A : Type 0} (vs : List A) (v : A) (o : Option (List A)) → prepend vs (push (Some v) o) ≡ prepend (vs ++ (v ∷ [])) o
 unfolding prepend push
-prepend-push vs v none = refl
-prepend-push vs v (some ws) = ap some (sym (append_assoc vs (v ∷ []) ws))
+prepend-push vs v None = refl
+prepend-push vs v (Some ws) = ap Some (sym (append_assoc vs (v ∷ []) ws))
 
 -- the state of a loop that reads the n fields after the word: i of them are read, into out, and the next starts at index at
 abbrev pub Reading : {A : Type 0} → (List ℕ → Option A) → List ℕ → ℕ → List ℕ → ℕ → ℕ → List A → Type 0
 Reading read word n line i at out = (i ≤ n) × (length out ≡ n) × (record_of read word n line ≡ prepend (take i out) (exactly read (n - i) (fields_from at line)))
 
 module _ {A : Type 0} (read : List ℕ → Option A) (word : List ℕ) (n : ℕ) (line : List ℕ) where
-  first_word : record_of read word n line ≡ cond (same (take (until_tab line) line) word) (exactly read n (fields_from (until_tab line + 1) line)) none
+  first_word : record_of read word n line ≡ cond (same (take (until_tab line) line) word) (exactly read n (fields_from (until_tab line + 1) line)) None
   unfolding record_of after_word
   first_word = rw (fields-first line)
 
@@ -120,20 +120,20 @@ module _ {A : Type 0} (read : List ℕ → Option A) (word : List ℕ) (n : ℕ)
     unfolding exactly
     at_field end l e = w.2 ∙ rw (field_at line at end l e, left)
 
-    pub field_bad : (end : ℕ) → at ≤ length line → end ≡ at + until_tab (drop at line) → read (take (end - at) (drop at line)) ≡ none
+    pub field_bad : (end : ℕ) → at ≤ length line → end ≡ at + until_tab (drop at line) → None ≡ read (take (end - at) (drop at line))
         → answer_of false out ≡ record_of read word n line
     unfolding answer_of push prepend
-    field_bad end l e b = sym (at_field end l e ∙ rw b)
+    field_bad end l e b = sym (at_field end l e ∙ rw (← b))
 
-    pub field_read : (end : ℕ) (v : A) → at ≤ length line → end ≡ at + until_tab (drop at line) → read (take (end - at) (drop at line)) ≡ some v
+    pub field_read : (end : ℕ) (v : A) → at ≤ length line → end ≡ at + until_tab (drop at line) → Some v ≡ read (take (end - at) (drop at line))
         → Reading read word n line (i + 1) (end + 1) (set out i v)
     field_read end v l e b =
-        (omega arith, length-set out i v ∙ w.1, at_field end l e ∙ rw (b, add-one i, take-suc-set out i v (omega (arith, w.1))) (prepend-push (take i out) v _))
+        (omega arith, length-set out i v ∙ w.1, at_field end l e ∙ rw (← b, add-one i, take-suc-set out i v (omega (arith, w.1))) (prepend-push (take i out) v _))
 
   -- past the last field
   all_read : (out : List A) → prepend out (exactly read 0 []) ≡ answer_of true out
   unfolding prepend exactly answer_of
-  all_read out = ap some (append-nil out)
+  all_read out = ap Some (append-nil out)
 
   one_more : (out : List A) (f : List ℕ) (fs : List (List ℕ)) → prepend out (exactly read 0 (f ∷ fs)) ≡ answer_of false out
   unfolding prepend exactly answer_of

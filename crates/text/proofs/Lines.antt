@@ -5,9 +5,9 @@ use Prim.Native.Nat.{ℕ, suc, ◌+◌, ◌*◌, ◌≤◌, ◌<◌}
 use native.Mathlib.Omega.{arith}
 use native.Mathlib.Numerals.{add-one}
 use lib.ListN.{length, get_or, take, set, length-append, length-set}
-use lib.Seq.{take-suc, take_all, take-suc-set, length-take-le}
+use lib.Seq.{take-suc, take-suc-set}
 use Rattle.numerals.specs.Bytes.{written}
-use Rattle.numerals.proofs.Buffers.{written_none, written_cons, written_twice, written-more, length-written, take-written}
+use Rattle.numerals.proofs.Buffers.{written_none, written_cons, written_twice, length-written, take-written}
 use Rattle.text.specs.Lines.{tabbed, joined, line_of}
 
 pub tabbed_append : (fs gs : List (List ℕ)) → tabbed (fs ++ gs) ≡ tabbed fs ++ tabbed gs
@@ -31,14 +31,6 @@ joined-two f g = append_assoc f (9 ∷ []) g ∙ ap (λ (s : List ℕ). f ++ s) 
 pub joined-more : (f : List ℕ) (fs gs : List (List ℕ)) → joined (f ∷ fs) ++ tabbed gs ≡ joined (f ∷ (fs ++ gs))
 unfolding joined
 joined-more f fs gs = append_assoc f (tabbed fs) (tabbed gs) ∙ ap (λ (s : List ℕ). f ++ s) (sym (tabbed_append fs gs))
-
--- `put_bytes` after i bytes and one more
-pub byte_more : (d s e : List ℕ) (at i : ℕ) → at + length s ≤ length d → i < length s → e ≡ written d at (take i s)
-    → set e (at + i) (get_or s i 0) ≡ written d at (take (i + 1) s)
-byte_more d s e at i h l p =
-    let k : length (take i s) ≡ i = length-take-le i s (omega arith) in
-    let q : at + i ≡ at + length (take i s) = omega arith in
-    rw (p, q, add-one i, take-suc s i 0 l) (written-more d at (take i s) (get_or s i 0) (omega arith))
 
 -- the state of a loop that writes a row from at on, by `show` to at most 20 bytes a number: i numbers are written, up to the place to
 abbrev pub Putting : {A : Type 0} → (A → List ℕ) → List A → List ℕ → ℕ → ℕ → ℕ → List ℕ → Type 0
@@ -68,13 +60,6 @@ module _ {A : Type 0} (show : A → List ℕ) (vs : List A) (d : List ℕ) (at :
         omega arith,
         g ∙ rw (w.4, w.2, m) (written_twice d at (tabbed (map show (take i vs))) (9 ∷ show v) (omega arith)),
       )
-
-  pub putting_all : (i to : ℕ) (e : List ℕ) → length vs ≤ i → Putting show vs d at i to e
-      → (to ≡ at + length (tabbed (map show vs))) × (e ≡ written d at (tabbed (map show vs))) × (to ≤ at + 21 * length vs)
-  putting_all i to e h w =
-      let t : take i vs ≡ vs = take_all i vs h in
-      let k : i ≡ length vs = omega arith in
-      (rw (← t) w.2, rw (← t) w.4, rw (← k) w.3)
 
 -- the buffer up to the place to is s
 pub record Holds (d : List ℕ) (to : ℕ) (s : List ℕ) : Type 0 where

@@ -2,7 +2,8 @@
 use mathlib.Core.Path.{◌≡◌, refl, sym, ap, ap₂, ◌∙◌, subst}
 use mathlib.Core.Bool.{Bool, true, false, cond}
 use mathlib.Core.List.{List, [], ◌∷◌, ◌++◌, map, append-nil}
-use mathlib.Core.Option.{Option, some, none, none-ne-some, some-injective}
+use Rattle.std.specs.Prelude.{Option, Some, None}
+use Rattle.std.proofs.lemmas.Option.{none-some, same_Some}
 use Prim.Native.Nat.{ℕ, zero, suc, ◌^◌, ◌≤◌, ◌<◌}
 use native.Mathlib.Omega.{arith}
 use lib.Dec.{T, eqb}
@@ -12,11 +13,7 @@ use mir.Syntax.{w64}
 use mir.Val.{SFits}
 use borrow.Author.Tests.{eqb-true, ne_eqb}
 use Rattle.numerals.specs.Bytes.{lacks}
-use Rattle.numerals.specs.Numerals.{read_unsigned, read_signed, unsigned_of, signed_of, decimal, decimal_Z}
-use Rattle.numerals.specs.declared.ParsedU64.{ParsedU64}
-use Rattle.numerals.specs.declared.ParsedU64.TheVariants as Unsigned
-use Rattle.numerals.specs.declared.ParsedI64.{ParsedI64}
-use Rattle.numerals.specs.declared.ParsedI64.TheVariants as Signed
+use Rattle.numerals.specs.Numerals.{decimal, decimal_Z}
 use Rattle.numerals.proofs.Writing.{decimal-lacks, decimal_Z-lacks}
 use Rattle.numerals.proofs.RoundTrip.{unsigned_back, signed_back, unsigned_only, signed_only}
 use Rattle.text.specs.Fields.{onto, fields, same, push, exactly, after_word, record_of, read_u64, read_i64, read_ternary, cut_at}
@@ -86,95 +83,95 @@ joined-fields (x ∷ s) = go (eqb x 9) refl (joined-fields s)
 
 -- a record written and read again, by `show` and `read`
 module _ {A : Type 0} (read : List ℕ → Option A) (show : A → List ℕ) where
-  exactly-back : (vs : List A) → Each (λ v. read (show v) ≡ some v) vs → exactly read (length vs) (map show vs) ≡ some vs
+  exactly-back : (vs : List A) → Each (λ v. read (show v) ≡ Some v) vs → exactly read (length vs) (map show vs) ≡ Some vs
   unfolding exactly push
   exactly-back [] h = refl
   exactly-back (v ∷ vs) h = rw (h.0, exactly-back vs h.1)
 
-  pub record_back : (w : List ℕ) (vs : List A) → lacks 9 w ≡ true → Each (λ v. lacks 9 (show v) ≡ true) vs → Each (λ v. read (show v) ≡ some v) vs
-      → record_of read w (length vs) (joined (w ∷ map show vs)) ≡ some vs
+  pub record_back : (w : List ℕ) (vs : List A) → lacks 9 w ≡ true → Each (λ v. lacks 9 (show v) ≡ true) vs → Each (λ v. read (show v) ≡ Some v) vs
+      → record_of read w (length vs) (joined (w ∷ map show vs)) ≡ Some vs
   unfolding record_of after_word
   record_back w vs t l r =
       let k : Each (λ (g : List ℕ). lacks 9 g ≡ true) (map show vs) = each_map show (λ v. lacks 9 (show v) ≡ true) (λ g. lacks 9 g ≡ true) (λ v h. h) vs l in
       rw (fields-joined w (map show vs) (t, k), same_refl w) (exactly-back vs r)
 
   -- a line that is read as a record has as many numbers as were asked for, and is the line of them
-  exactly_only : (n : ℕ) (fs : List (List ℕ)) (vs : List A) → ((f : List ℕ) (v : A) → read f ≡ some v → f ≡ show v) → exactly read n fs ≡ some vs
+  exactly_only : (n : ℕ) (fs : List (List ℕ)) (vs : List A) → ((f : List ℕ) (v : A) → read f ≡ Some v → f ≡ show v) → exactly read n fs ≡ Some vs
       → (length vs ≡ n) × (fs ≡ map show vs)
   unfolding exactly push
-  exactly_only zero [] vs u e = rw (← some-injective _ _ e) (refl, refl)
-  exactly_only zero (f ∷ fs) vs u e = absurd (none-ne-some vs e)
-  exactly_only (suc n) [] vs u e = absurd (none-ne-some vs e)
-  exactly_only (suc n) (f ∷ fs) vs u e = go (λ (xs : List A) (q : exactly read n fs ≡ some xs). exactly_only n fs xs u q) (read f) refl (exactly read n fs) refl e
+  exactly_only zero [] vs u e = rw (← same_Some _ _ e) (refl, refl)
+  exactly_only zero (f ∷ fs) vs u e = absurd (none-some vs e)
+  exactly_only (suc n) [] vs u e = absurd (none-some vs e)
+  exactly_only (suc n) (f ∷ fs) vs u e = go (λ (xs : List A) (q : exactly read n fs ≡ Some xs). exactly_only n fs xs u q) (read f) refl (exactly read n fs) refl e
     where
-      go : ((xs : List A) → exactly read n fs ≡ some xs → (length xs ≡ n) × (fs ≡ map show xs)) → (o : Option A) → read f ≡ o → (p : Option (List A)) → exactly read n fs ≡ p
-          → push o p ≡ some vs → (length vs ≡ suc n) × ((f ∷ fs) ≡ map show vs)
-      go rest none a p b h = absurd (none-ne-some vs h)
-      go rest (some v) a none b h = absurd (none-ne-some vs h)
-      go rest (some v) a (some ws) b h =
+      go : ((xs : List A) → exactly read n fs ≡ Some xs → (length xs ≡ n) × (fs ≡ map show xs)) → (o : Option A) → read f ≡ o → (p : Option (List A)) → exactly read n fs ≡ p
+          → push o p ≡ Some vs → (length vs ≡ suc n) × ((f ∷ fs) ≡ map show vs)
+      go rest None a p b h = absurd (none-some vs h)
+      go rest (Some v) a None b h = absurd (none-some vs h)
+      go rest (Some v) a (Some ws) b h =
           let r = rest ws b in
-          rw (← some-injective _ _ h) (ap suc r.0, ap₂ (λ (g : List ℕ) (gs : List (List ℕ)). g ∷ gs) (u f v a) r.1)
+          rw (← same_Some _ _ h) (ap suc r.0, ap₂ (λ (g : List ℕ) (gs : List (List ℕ)). g ∷ gs) (u f v a) r.1)
 
-  after_only : (w : List ℕ) (n : ℕ) (fs : List (List ℕ)) (vs : List A) → ((f : List ℕ) (v : A) → read f ≡ some v → f ≡ show v) → after_word read w n fs ≡ some vs
+  after_only : (w : List ℕ) (n : ℕ) (fs : List (List ℕ)) (vs : List A) → ((f : List ℕ) (v : A) → read f ≡ Some v → f ≡ show v) → after_word read w n fs ≡ Some vs
       → (length vs ≡ n) × (fs ≡ w ∷ map show vs)
   unfolding after_word
-  after_only w n [] vs u e = absurd (none-ne-some vs e)
+  after_only w n [] vs u e = absurd (none-some vs e)
   after_only w n (f ∷ fs) vs u e = go (same f w) refl e
     where
-      go : (b : Bool) → same f w ≡ b → cond b (exactly read n fs) none ≡ some vs → (length vs ≡ n) × ((f ∷ fs) ≡ w ∷ map show vs)
+      go : (b : Bool) → same f w ≡ b → cond b (exactly read n fs) None ≡ Some vs → (length vs ≡ n) × ((f ∷ fs) ≡ w ∷ map show vs)
       go true p h = let r = exactly_only n fs vs u h in (r.0, ap₂ (λ (g : List ℕ) (gs : List (List ℕ)). g ∷ gs) (same_eq f w p) r.1)
-      go false p h = absurd (none-ne-some vs h)
+      go false p h = absurd (none-some vs h)
 
-  pub record_only : (w : List ℕ) (n : ℕ) (line : List ℕ) (vs : List A) → ((f : List ℕ) (v : A) → read f ≡ some v → f ≡ show v) → record_of read w n line ≡ some vs
+  pub record_only : (w : List ℕ) (n : ℕ) (line : List ℕ) (vs : List A) → ((f : List ℕ) (v : A) → read f ≡ Some v → f ≡ show v) → record_of read w n line ≡ Some vs
       → (length vs ≡ n) × (line ≡ joined (w ∷ map show vs))
   unfolding record_of
   record_only w n line vs u e = let r = after_only w n (fields line) vs u e in (r.0, sym (joined-fields line) ∙ ap joined r.1)
 
 -- what each field that can be read gives, each value of a record is
-module _ {A : Type 0} (read : List ℕ → Option A) (P : A → Type 0) (u : (f : List ℕ) (v : A) → read f ≡ some v → P v) where
-  exactly-each : (n : ℕ) (fs : List (List ℕ)) (vs : List A) → exactly read n fs ≡ some vs → (length vs ≡ n) × Each P vs
+module _ {A : Type 0} (read : List ℕ → Option A) (P : A → Type 0) (u : (f : List ℕ) (v : A) → read f ≡ Some v → P v) where
+  exactly-each : (n : ℕ) (fs : List (List ℕ)) (vs : List A) → exactly read n fs ≡ Some vs → (length vs ≡ n) × Each P vs
   unfolding exactly push
-  exactly-each zero [] vs e = subst (λ (xs : List A). (length xs ≡ 0) × Each P xs) (some-injective _ _ e) (refl, tt)
-  exactly-each zero (f ∷ fs) vs e = absurd (none-ne-some vs e)
-  exactly-each (suc n) [] vs e = absurd (none-ne-some vs e)
-  exactly-each (suc n) (f ∷ fs) vs e = go (λ (xs : List A) (q : exactly read n fs ≡ some xs). exactly-each n fs xs q) (read f) refl (exactly read n fs) refl e
+  exactly-each zero [] vs e = subst (λ (xs : List A). (length xs ≡ 0) × Each P xs) (same_Some _ _ e) (refl, tt)
+  exactly-each zero (f ∷ fs) vs e = absurd (none-some vs e)
+  exactly-each (suc n) [] vs e = absurd (none-some vs e)
+  exactly-each (suc n) (f ∷ fs) vs e = go (λ (xs : List A) (q : exactly read n fs ≡ Some xs). exactly-each n fs xs q) (read f) refl (exactly read n fs) refl e
     where
-      go : ((xs : List A) → exactly read n fs ≡ some xs → (length xs ≡ n) × Each P xs) → (o : Option A) → read f ≡ o → (p : Option (List A)) → exactly read n fs ≡ p
-          → push o p ≡ some vs → (length vs ≡ suc n) × Each P vs
-      go rest none a p b h = absurd (none-ne-some vs h)
-      go rest (some v) a none b h = absurd (none-ne-some vs h)
-      go rest (some v) a (some ws) b h =
+      go : ((xs : List A) → exactly read n fs ≡ Some xs → (length xs ≡ n) × Each P xs) → (o : Option A) → read f ≡ o → (p : Option (List A)) → exactly read n fs ≡ p
+          → push o p ≡ Some vs → (length vs ≡ suc n) × Each P vs
+      go rest None a p b h = absurd (none-some vs h)
+      go rest (Some v) a None b h = absurd (none-some vs h)
+      go rest (Some v) a (Some ws) b h =
           let r = rest ws b in
-          subst (λ (xs : List A). (length xs ≡ suc n) × Each P xs) (some-injective _ _ h) (ap suc r.0, (u f v a, r.1))
+          subst (λ (xs : List A). (length xs ≡ suc n) × Each P xs) (same_Some _ _ h) (ap suc r.0, (u f v a, r.1))
 
-  pub record_each : (w : List ℕ) (n : ℕ) (line : List ℕ) (vs : List A) → record_of read w n line ≡ some vs → (length vs ≡ n) × Each P vs
+  pub record_each : (w : List ℕ) (n : ℕ) (line : List ℕ) (vs : List A) → record_of read w n line ≡ Some vs → (length vs ≡ n) × Each P vs
   unfolding record_of after_word
   record_each w n line vs e = go (fields line) e
     where
-      by : (b : Bool) (fs : List (List ℕ)) → cond b (exactly read n fs) none ≡ some vs → (length vs ≡ n) × Each P vs
+      by : (b : Bool) (fs : List (List ℕ)) → cond b (exactly read n fs) None ≡ Some vs → (length vs ≡ n) × Each P vs
       by true fs h = exactly-each n fs vs h
-      by false fs h = absurd (none-ne-some vs h)
+      by false fs h = absurd (none-some vs h)
 
-      go : (fs : List (List ℕ)) → after_word read w n fs ≡ some vs → (length vs ≡ n) × Each P vs
-      go [] h = absurd (none-ne-some vs h)
+      go : (fs : List (List ℕ)) → after_word read w n fs ≡ Some vs → (length vs ≡ n) × Each P vs
+      go [] h = absurd (none-some vs h)
       go (f ∷ fs) h = by (same f w) fs h
 
 -- ternary entries: each byte is 0, 1 or 2
-ternary-small : (f : List ℕ) (x : ℕ) → read_ternary f ≡ some x → x ≤ 2
+ternary-small : (f : List ℕ) (x : ℕ) → read_ternary f ≡ Some x → x ≤ 2
 unfolding read_ternary
 ternary-small f x e = go (same f (48 ∷ [])) (same f (49 ∷ [])) (same f (45 ∷ 49 ∷ [])) e
   where
-    go : (a b c : Bool) → cond a (some 0) (cond b (some 1) (cond c (some 2) none)) ≡ some x → x ≤ 2
-    go true b c h = let z : 0 ≡ x = some-injective _ _ h in omega arith
-    go false true c h = let z : 1 ≡ x = some-injective _ _ h in omega arith
-    go false false true h = let z : 2 ≡ x = some-injective _ _ h in omega arith
-    go false false false h = absurd (none-ne-some x h)
+    go : (a b c : Bool) → cond a (Some 0) (cond b (Some 1) (cond c (Some 2) None)) ≡ Some x → x ≤ 2
+    go true b c h = let z : 0 ≡ x = same_Some _ _ h in omega arith
+    go false true c h = let z : 1 ≡ x = same_Some _ _ h in omega arith
+    go false false true h = let z : 2 ≡ x = same_Some _ _ h in omega arith
+    go false false false h = absurd (none-some x h)
 
-pub ternary-each : (w : List ℕ) (n : ℕ) (line vs : List ℕ) → record_of read_ternary w n line ≡ some vs → (length vs ≡ n) × Each (λ x. x ≤ 2) vs
+pub ternary-each : (w : List ℕ) (n : ℕ) (line vs : List ℕ) → record_of read_ternary w n line ≡ Some vs → (length vs ≡ n) × Each (λ x. x ≤ 2) vs
 ternary-each w n line vs e = record_each read_ternary (λ x. x ≤ 2) ternary-small w n line vs e
 
 -- and each of these is read from its field
-read-ternary : (x : ℕ) → x ≤ 2 → read_ternary (ternary_numeral x) ≡ some x
+read-ternary : (x : ℕ) → x ≤ 2 → read_ternary (ternary_numeral x) ≡ Some x
 unfolding read_ternary ternary_numeral same
 read-ternary zero h = refl
 read-ternary (suc zero) h = refl
@@ -194,49 +191,25 @@ ternary-lacks b x h = go (eqb x 0) (eqb x 1)
     go false true = rw (other 49 (omega arith))
     go false false = rw (other 45 (omega arith), other 49 (omega arith))
 
-pub ternaries_back : (w vs : List ℕ) → lacks 9 w ≡ true → Each (λ x. x ≤ 2) vs → record_of read_ternary w (length vs) (joined (w ∷ map ternary_numeral vs)) ≡ some vs
+pub ternaries_back : (w vs : List ℕ) → lacks 9 w ≡ true → Each (λ x. x ≤ 2) vs → record_of read_ternary w (length vs) (joined (w ∷ map ternary_numeral vs)) ≡ Some vs
 ternaries_back w vs t h = record_back read_ternary ternary_numeral w vs t
     (each_holds (λ x. x ≤ 2) (λ v. lacks 9 (ternary_numeral v) ≡ true) (λ v l. ternary-lacks 9 v (omega arith)) vs h)
-    (each_holds (λ x. x ≤ 2) (λ v. read_ternary (ternary_numeral v) ≡ some v) read-ternary vs h)
+    (each_holds (λ x. x ≤ 2) (λ v. read_ternary (ternary_numeral v) ≡ Some v) read-ternary vs h)
 
 -- unsigned numbers
-read-decimal : (n : ℕ) → n < 2 ^ 64 → read_u64 (decimal n) ≡ some n
-unfolding read_u64 unsigned_of
-read-decimal n h = rw (unsigned_back n h)
-
-pub u64s_back : (w : List ℕ) (vs : List ℕ) → lacks 9 w ≡ true → Each (λ v. v < 2 ^ 64) vs → record_of read_u64 w (length vs) (joined (w ∷ map decimal vs)) ≡ some vs
+pub u64s_back : (w : List ℕ) (vs : List ℕ) → lacks 9 w ≡ true → Each (λ v. v < 2 ^ 64) vs → record_of read_u64 w (length vs) (joined (w ∷ map decimal vs)) ≡ Some vs
 u64s_back w vs t h = record_back read_u64 decimal w vs t
     (each_holds (λ v. v < 2 ^ 64) (λ v. lacks 9 (decimal v) ≡ true) (λ v l. decimal-lacks 9 v (omega arith)) vs h)
-    (each_holds (λ v. v < 2 ^ 64) (λ v. read_u64 (decimal v) ≡ some v) read-decimal vs h)
+    (each_holds (λ v. v < 2 ^ 64) (λ v. read_u64 (decimal v) ≡ Some v) unsigned_back vs h)
 
-decimal-read : (f : List ℕ) (n : ℕ) → read_u64 f ≡ some n → f ≡ decimal n
-unfolding read_u64 unsigned_of
-decimal-read f n e = go (read_unsigned f) refl e
-  where
-    go : (p : ParsedU64) → read_unsigned f ≡ p → unsigned_of p ≡ some n → f ≡ decimal n
-    go Unsigned.Bad q h = absurd (none-ne-some n h)
-    go (Unsigned.Number m) q h = unsigned_only f m q ∙ ap decimal (some-injective _ _ h)
-
-pub u64s_only : (w : List ℕ) (n : ℕ) (line vs : List ℕ) → record_of read_u64 w n line ≡ some vs → (length vs ≡ n) × (line ≡ joined (w ∷ map decimal vs))
-u64s_only w n line vs e = record_only read_u64 decimal w n line vs decimal-read e
+pub u64s_only : (w : List ℕ) (n : ℕ) (line vs : List ℕ) → record_of read_u64 w n line ≡ Some vs → (length vs ≡ n) × (line ≡ joined (w ∷ map decimal vs))
+u64s_only w n line vs e = record_only read_u64 decimal w n line vs unsigned_only e
 
 -- signed numbers
-read-decimal_Z : (z : ℤ) → SFits w64 z → read_i64 (decimal_Z z) ≡ some z
-unfolding read_i64 signed_of
-read-decimal_Z z h = rw (signed_back z h)
-
-pub i64s_back : (w : List ℕ) (vs : List ℤ) → lacks 9 w ≡ true → Each (SFits w64) vs → record_of read_i64 w (length vs) (joined (w ∷ map decimal_Z vs)) ≡ some vs
+pub i64s_back : (w : List ℕ) (vs : List ℤ) → lacks 9 w ≡ true → Each (SFits w64) vs → record_of read_i64 w (length vs) (joined (w ∷ map decimal_Z vs)) ≡ Some vs
 i64s_back w vs t h = record_back read_i64 decimal_Z w vs t
     (each_holds (SFits w64) (λ v. lacks 9 (decimal_Z v) ≡ true) (λ v l. decimal_Z-lacks 9 v (omega arith)) vs h)
-    (each_holds (SFits w64) (λ v. read_i64 (decimal_Z v) ≡ some v) read-decimal_Z vs h)
+    (each_holds (SFits w64) (λ v. read_i64 (decimal_Z v) ≡ Some v) signed_back vs h)
 
-decimal_Z-read : (f : List ℕ) (z : ℤ) → read_i64 f ≡ some z → f ≡ decimal_Z z
-unfolding read_i64 signed_of
-decimal_Z-read f z e = go (read_signed f) refl e
-  where
-    go : (p : ParsedI64) → read_signed f ≡ p → signed_of p ≡ some z → f ≡ decimal_Z z
-    go Signed.Bad q h = absurd (none-ne-some z h)
-    go (Signed.Number y) q h = signed_only f y q ∙ ap decimal_Z (some-injective _ _ h)
-
-pub i64s_only : (w : List ℕ) (n : ℕ) (line : List ℕ) (vs : List ℤ) → record_of read_i64 w n line ≡ some vs → (length vs ≡ n) × (line ≡ joined (w ∷ map decimal_Z vs))
-i64s_only w n line vs e = record_only read_i64 decimal_Z w n line vs decimal_Z-read e
+pub i64s_only : (w : List ℕ) (n : ℕ) (line : List ℕ) (vs : List ℤ) → record_of read_i64 w n line ≡ Some vs → (length vs ≡ n) × (line ≡ joined (w ∷ map decimal_Z vs))
+i64s_only w n line vs e = record_only read_i64 decimal_Z w n line vs signed_only e

@@ -1,7 +1,6 @@
 -- Lines that are read: a line cut into its fields, and the numbers of a record.
-use Rattle.std.specs.Prelude.{Bool, true, false, cond, List, [], ◌∷◌, ℕ, zero, suc, eqb, ℤ}
-use Rattle.std.proofs.Math.Option.{Option, some, none}
-use Rattle.numerals.specs.Numerals.{read_unsigned, read_signed, unsigned_of, signed_of}
+use Rattle.std.specs.Prelude.{Bool, true, false, cond, List, [], ◌∷◌, ℕ, zero, suc, eqb, ℤ, Option, Some, None}
+use Rattle.numerals.specs.Numerals.{read_unsigned, read_signed}
 
 -- x put in front of the first part
 unfoldable pub onto : ℕ → List (List ℕ) → List (List ℕ)
@@ -31,39 +30,39 @@ same (x ∷ s) (y ∷ t) = cond (eqb x y) (same s t) false
 
 -- one value before the others, if all are there
 unfoldable pub push : {A : Type 0} → Option A → Option (List A) → Option (List A)
-push none vs = none
-push (some v) none = none
-push (some v) (some vs) = some (v ∷ vs)
+push None vs = None
+push (Some v) None = None
+push (Some v) (Some vs) = Some (v ∷ vs)
 
 -- exactly n fields, each read; none where there are more or fewer, or one cannot be read
 unfoldable pub exactly : {A : Type 0} → (List ℕ → Option A) → ℕ → List (List ℕ) → Option (List A)
-exactly read zero [] = some []
-exactly read zero (f ∷ fs) = none
-exactly read (suc n) [] = none
+exactly read zero [] = Some []
+exactly read zero (f ∷ fs) = None
+exactly read (suc n) [] = None
 exactly read (suc n) (f ∷ fs) = push (read f) (exactly read n fs)
 
 -- the n values after the word, where the first field is exactly that word
 unfoldable pub after_word : {A : Type 0} → (List ℕ → Option A) → List ℕ → ℕ → List (List ℕ) → Option (List A)
-after_word read word n [] = none
-after_word read word n (f ∷ fs) = cond (same f word) (exactly read n fs) none
+after_word read word n [] = None
+after_word read word n (f ∷ fs) = cond (same f word) (exactly read n fs) None
 
 -- the n values of a line that begins with the word
 unfoldable pub record_of : {A : Type 0} → (List ℕ → Option A) → List ℕ → ℕ → List ℕ → Option (List A)
 record_of read word n line = after_word read word n (fields line)
 
 -- a field as an unsigned number of 64 bits
-unfoldable pub read_u64 : List ℕ → Option ℕ
-read_u64 f = unsigned_of (read_unsigned f)
+abbrev pub read_u64 : List ℕ → Option ℕ
+read_u64 = read_unsigned
 
 -- a field as a signed number of 64 bits
-unfoldable pub read_i64 : List ℕ → Option ℤ
-read_i64 f = signed_of (read_signed f)
+abbrev pub read_i64 : List ℕ → Option ℤ
+read_i64 = read_signed
 
 -- a field as the byte of a ternary entry: `0` is 0, `1` is 1 and `-1` is 2
 unfoldable pub read_ternary : List ℕ → Option ℕ
-read_ternary f = cond (same f (48 ∷ [])) (some 0) (cond (same f (49 ∷ [])) (some 1) (cond (same f (45 ∷ 49 ∷ [])) (some 2) none))
+read_ternary f = cond (same f (48 ∷ [])) (Some 0) (cond (same f (49 ∷ [])) (Some 1) (cond (same f (45 ∷ 49 ∷ [])) (Some 2) None))
 
 -- the values, where the answer is yes
 unfoldable pub answer_of : {A : Type 0} → Bool → List A → Option (List A)
-answer_of true vs = some vs
-answer_of false vs = none
+answer_of true vs = Some vs
+answer_of false vs = None

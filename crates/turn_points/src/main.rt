@@ -4,8 +4,9 @@
 #![tactic(auto)]
 
 use groups::GROUPS;
+use settings::Refusal;
 use shown::print;
-use turns::{Next, Turn};
+use turns::Turn;
 
 fn main(rt: HostRuntime) {
     print::text(&rt, b"Request 10: taking turns\n");
@@ -32,44 +33,28 @@ fn main(rt: HostRuntime) {
 fn called(rt: &impl Print, weights: [u64; GROUPS], waiting: [u32; GROUPS], group: u64, used: u64) {
     print::number(rt, b"group ", group);
     print::number(rt, b", used ", used);
-    let came = Turn {
-        group: group,
-        used: used,
-    };
-    let served = turns::next_fold(weights, waiting, came);
-    let next = served.next;
-    answered(rt, next);
-    let turn = served.turn;
-    print::number(rt, b"; group ", turn.group);
-    print::number(rt, b", used ", turn.used);
-    let left = served.waiting;
-    counted(rt, left);
+    let served = turns::next_fold(weights, waiting, Turn { group, used });
+    answered(rt, served.next);
+    print::number(rt, b"; group ", served.turn.group);
+    print::number(rt, b", used ", served.turn.used);
+    counted(rt, served.waiting);
 }
 
 // Whose fold is next.
-fn answered(rt: &impl Print, next: Next) {
+fn answered(rt: &impl Print, next: Result<Option<u64>, Refusal>) {
     match next {
-        Next::Group(number) => print::number(rt, b": group ", number),
-        Next::None => print::text(rt, b": none"),
-        Next::Refused(number) => print::number(rt, b": refused with ", number as u64),
+        Ok(Some(group)) => print::number(rt, b": group ", group),
+        Ok(None) => print::text(rt, b": none"),
+        Err(refusal) => print::number(rt, b": refused with ", u64::from(refusal.number())),
     }
 }
 
 // The waiting counts, to the end of the line.
 fn counted(rt: &impl Print, left: [u32; GROUPS]) {
-    print::words(
-        rt,
-        b", waiting",
-        &[
-            left[0] as u64,
-            left[1] as u64,
-            left[2] as u64,
-            left[3] as u64,
-            left[4] as u64,
-            left[5] as u64,
-            left[6] as u64,
-            left[7] as u64,
-        ],
-    );
+    let mut counts = [0u64; GROUPS];
+    for (count, waiting) in counts.iter_mut().zip(&left) {
+        *count = u64::from(*waiting);
+    }
+    print::words(rt, b", waiting", &counts);
     print::end(rt);
 }

@@ -10,10 +10,11 @@ use native.Mathlib.Nat.{le_refl}
 use lib.ListN.{length, get_or}
 use lib.Seq.{get_or-set_other}
 use borrow.Author.Tests.{eq-eqb, ne_eqb, lt-ltb}
+use Rattle.std.specs.Prelude.{Some, None, Ok, Err}
 use Rattle.integers.proofs.Tests.{true-is}
 use Rattle.groups.specs.Groups.{Group, ◌of◌}
 use Rattle.turns.specs.declared.Turn.{Turn}
-use Rattle.turns.specs.Turns.{turn, waits, after, next_waiting, goes_on, next_turn, Meaning, named, none, refused, Found, counts_after, next_fold}
+use Rattle.turns.specs.Turns.{turn, waits, after, next_waiting, goes_on, next_turn, Meaning, named, Found, counts_after, next_fold}
 use Rattle.turns.specs.Calls.{Proper, others, answers, served_before, Names, KeepsWaiting, arrived, counts}
 use Rattle.turns.proofs.Order.{ahead, after-group, ahead_after, ahead_own, ahead-other, before, before-from, before_mono, before-others}
 use Rattle.turns.proofs.Finding.{proper_intro, on-facts, search_by, turn_on, turn-over, says-group, says_none, Ways, finding, nobody, ways, named_inj, found-named}
@@ -203,11 +204,11 @@ unfolding counts_after
 kept w W t g gg never = go (next_fold w W t).answer refl never
   where
     go : (a : Meaning) → (next_fold w W t).answer ≡ a → a ≢ named g → (counts_after a W) of g ≡ W of g
-    go (named h) e ne =
+    go (Ok (Some h)) e ne =
         let n = found-named w W t h e in
         get_or-set_other W (h - 1) (g - 1) (W of h - 1) 0 (λ z. ne (ap named (omega (arith, z, gg.0, n.group.0))))
-    go none e ne = refl
-    go (refused r) e ne = refl
+    go (Ok None) e ne = refl
+    go (Err r) e ne = refl
 
 pub keeps_waiting : (w : List ℕ) (g : ℕ) → Group g → (later : List (List ℕ)) (W : List ℕ) (t : Turn) → 0 < W of g → KeepsWaiting w t g (counts w t W later)
 unfolding counts

@@ -3,10 +3,11 @@ use mathlib.Core.Path.{◌≡◌, refl, sym, ap, subst, ◌∙◌}
 use mathlib.Core.Logic.{◌≢◌, inl, inr, ⊎_elim}
 use mathlib.Core.Bool.{Bool, true, false, not, cond, ◌&&◌}
 use mathlib.Core.List.{List}
-use Prim.Native.Nat.{ℕ, zero, suc, ◌+◌, ◌-◌, ◌≤◌, ◌<◌}
+use Prim.Native.Nat.{ℕ, zero, suc, ◌+◌, ◌-◌, ◌%◌, ◌≤◌, ◌<◌}
 use native.Mathlib.Omega.{arith}
 use native.Mathlib.Decide.{ℕ_discrete}
 use native.Mathlib.Numerals.{add-one}
+use Rattle.std.specs.Prelude.{Some, None, Ok, Err}
 use lib.Dec.{T, T_not, leb, ltb, leb→le, le→leb, ltb→lt, nleb→lt}
 use lib.ListN.{get_or}
 use borrow.Author.Tests.{ne_eqb, lt-ltb, le-ltb}
@@ -15,7 +16,7 @@ use Rattle.integers.proofs.Tests.{and_fst, and_snd, and_both, one-fails, true-is
 use Rattle.settings.specs.Rules.{first_of}
 use Rattle.groups.specs.Groups.{groups, is_group, Group, ◌of◌}
 use Rattle.turns.specs.declared.Turn.{Turn}
-use Rattle.turns.specs.Turns.{turn, weight_range, weights_inside, is_proper, turn_refusal, waits, after, next_waiting, goes_on, next_turn, Meaning, named, none, refused, Found, finds, found_by, found, counts_after, returns, next_fold}
+use Rattle.turns.specs.Turns.{turn, weight_range, weights_inside, is_proper, turn_refusal, waits, after, next_waiting, if_any, goes_on, next_turn, Meaning, named, none, refused, Found, finds, found_by, found, counts_after, returns, next_fold}
 use Rattle.turns.specs.Calls.{Proper, TurnedAway}
 use Rattle.turns.proofs.Order.{after-group}
 
@@ -93,6 +94,18 @@ search_on n W x l = rw (add-one n, le-ltb 0 (W of (after x)) l) refl
 pub search_by : (n : ℕ) (W : List ℕ) (x : ℕ) (c : Bool) → waits W (after x) ≡ c → next_waiting (suc n) W x ≡ cond c (after x) (next_waiting n W (after x))
 unfolding next_waiting
 search_by n W x c e = rw e refl
+
+-- what the code answers
+pub if_some : (n g : ℕ) → Some g ≡ if_any n → (n ≡ g) × (g ≢ 0)
+if_some zero g e = cc
+if_some (suc n) g e = let same : suc n ≡ g = cc in (same, λ z. omega (arith, same, z))
+
+pub if_none : (n : ℕ) → None ≡ if_any n → n ≡ 0
+if_none zero e = refl
+if_none (suc n) e = cc
+
+pub after-some : (g : ℕ) → Some (after g) ≡ if_any (after g)
+after-some g = rw (add-one (g % groups)) refl
 
 -- one of the eight groups, which waits
 pub record Waiting (W : List ℕ) (h : ℕ) : Type 0 where
@@ -179,9 +192,9 @@ ways w W t p = go (goes_on w W t) refl (ℕ_discrete (next_waiting groups W t.gr
 
 -- a kind of answer for each
 unfoldable pub kind : Meaning → ℕ
-kind (named g) = 0
-kind none = 1
-kind (refused r) = 2
+kind (Ok (Some g)) = 0
+kind (Ok None) = 1
+kind (Err r) = 2
 
 pub apart : (a b : Meaning) → a ≡ b → kind a ≢ kind b → ⊥
 apart a b e ne = ne (ap kind e)
@@ -190,9 +203,9 @@ pub named_inj : (g h : ℕ) → named g ≡ named h → g ≡ h
 named_inj g h e = ap number e
   where
     number : Meaning → ℕ
-    number (named g) = g
-    number none = 0
-    number (refused r) = 0
+    number (Ok (Some g)) = g
+    number (Ok None) = 0
+    number (Err r) = 0
 
 -- so is a group that is named
 pub found-named : (w W : List ℕ) (t : Turn) (g : ℕ) → (found w W t).answer ≡ named g → Waiting W g

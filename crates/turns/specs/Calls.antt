@@ -1,10 +1,10 @@
 -- Calls one after the other: the weights stay, and each call gets the turn that the last one returned.
-use Rattle.std.specs.Prelude.{◌≡◌, ◌≢◌, ◌⊎◌, cond, List, [], ◌∷◌, ℕ, zero, suc, ◌+◌, ◌<◌, ◌≤◌, eqb, get_or}
+use Rattle.std.specs.Prelude.{◌≡◌, ◌≢◌, ◌⊎◌, cond, List, [], ◌∷◌, ℕ, zero, suc, ◌+◌, ◌<◌, ◌≤◌, eqb, get_or, Some, None, Ok, Err}
 use Rattle.integers.specs.Sums.{sum_ℕ}
 use Rattle.integers.specs.Ranges.{In}
 use Rattle.groups.specs.Groups.{groups, Group, ◌of◌}
 use Rattle.turns.specs.declared.Turn.{Turn}
-use Rattle.turns.specs.Turns.{weight_range, after, Meaning, named, none, refused, next_fold}
+use Rattle.turns.specs.Turns.{weight_range, after, Meaning, named, next_fold}
 
 -- a proper call: each weight is 1 to 16, the turn's group is 1 to 8, and its used folds are at most its weight
 pub record Proper (w : List ℕ) (t : Turn) : Type 0 where
@@ -37,9 +37,9 @@ answers w t (W ∷ Ws) = (next_fold w W t).answer ∷ answers w (next_fold w W t
 -- how many folds of others are served before the first of group g
 unfoldable pub served_before : ℕ → List Meaning → ℕ
 served_before g [] = 0
-served_before g (named h ∷ rest) = cond (eqb h g) 0 (suc (served_before g rest))
-served_before g (none ∷ rest) = served_before g rest
-served_before g (refused r ∷ rest) = served_before g rest
+served_before g (Ok (Some h) ∷ rest) = cond (eqb h g) 0 (suc (served_before g rest))
+served_before g (Ok None ∷ rest) = served_before g rest
+served_before g (Err r ∷ rest) = served_before g rest
 
 -- one of the answers names group g
 abbrev pub Names : ℕ → List Meaning → Type 0

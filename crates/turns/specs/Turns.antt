@@ -1,12 +1,10 @@
 -- Document 02, request 10: taking turns on the machine.
-use Rattle.std.specs.Prelude.{Bool, not, cond, ◌&&◌, List, [], ◌∷◌, ℕ, zero, suc, ◌+◌, ◌-◌, ◌%◌, leb, ltb, eqb, get_or, set}
+use Rattle.std.specs.Prelude.{Bool, not, cond, ◌&&◌, List, [], ◌∷◌, ℕ, zero, suc, ◌+◌, ◌-◌, ◌%◌, leb, ltb, eqb, get_or, set, Option, Some, None, Result, Ok, Err}
 use Rattle.integers.specs.Tests.{all}
 use Rattle.integers.specs.Ranges.{Range, ◌to◌, within}
 use Rattle.settings.specs.Rules.{Rule, ◌gives◌, first_of}
 use Rattle.groups.specs.Groups.{groups, is_group, ◌of◌}
 use Rattle.turns.specs.declared.Turn.{Turn}
-use Rattle.turns.specs.declared.Next.{Next}
-use Rattle.turns.specs.declared.Next.TheVariants as Nexts
 
 -- a turn: its group, and the folds used in it
 abbrev pub turn : ℕ → ℕ → Turn
@@ -45,6 +43,11 @@ unfoldable pub next_waiting : ℕ → List ℕ → ℕ → ℕ
 next_waiting zero W g = 0
 next_waiting (suc n) W g = cond (waits W (after g)) (after g) (next_waiting n W (after g))
 
+-- a group that was found, for the code's answer
+abbrev pub if_any : ℕ → Option ℕ
+if_any zero = None
+if_any (suc g) = Some (suc g)
+
 -- whether the turn goes on: it ends at its weight or when its group has none waiting
 unfoldable pub goes_on : List ℕ → List ℕ → Turn → Bool
 goes_on w W t = ltb t.used (w of t.group) && waits W t.group
@@ -53,17 +56,18 @@ goes_on w W t = ltb t.used (w of t.group) && waits W t.group
 unfoldable pub next_turn : List ℕ → List ℕ → Turn → Turn
 next_turn w W t = cond (goes_on w W t) (turn t.group (t.used + 1)) (turn (next_waiting groups W t.group) 1)
 
--- what an answer says: the next fold's group, none, or a refusal with its number
-pub data Meaning : Type 0 where
-  named : ℕ → Meaning
-  none : Meaning
-  refused : ℕ → Meaning
+-- what an answer says: the next fold's group, if anybody's, or a refusal's number
+abbrev pub Meaning : Type 0
+Meaning = Result (Option ℕ) ℕ
 
--- what each case of the code's answer says
-unfoldable pub next_of : Next → Meaning
-next_of (Nexts.Group g) = named g
-next_of Nexts.None = none
-next_of (Nexts.Refused r) = refused r
+abbrev pub named : ℕ → Meaning
+named g = Ok (Some g)
+
+abbrev pub none : Meaning
+none = Ok None
+
+abbrev pub refused : ℕ → Meaning
+refused r = Err r
 
 -- an answer, and the turn that is returned with it
 pub record Found : Type 0 where
@@ -87,9 +91,9 @@ one_less W g = set W (g - 1) (W of g - 1)
 
 -- the waiting counts after an answer: one less for the group that it names
 unfoldable pub counts_after : Meaning → List ℕ → List ℕ
-counts_after (named g) W = one_less W g
-counts_after none W = W
-counts_after (refused r) W = W
+counts_after (Ok (Some g)) W = one_less W g
+counts_after (Ok None) W = W
+counts_after (Err r) W = W
 
 -- what a call returns: its answer, the turn and the waiting counts
 pub record Outcome : Type 0 where

@@ -1,12 +1,15 @@
 // Taking turns on the machine: which group's fold is next.
+// Slices of a known length and no arrays: `lova_next_fold` is lent them by C and looks at their lengths itself.
 #![tactic(auto)]
 
 ghost use Rattle.std.specs.Prelude.{◌≡◌, ◌<◌, length};
+ghost use Rattle.settings.specs.Refusals.{numbered};
 ghost use Rattle.groups.specs.Groups.{groups, Group, ◌of◌};
-ghost use Rattle.turns.specs.Turns.{turn, weights_inside, is_proper, goes_on, next_waiting, next_of, finds, found};
+ghost use Rattle.turns.specs.Turns.{turn, weights_inside, is_proper, goes_on, next_waiting, if_any, finds, found};
 ghost use Rattle.turns.specs.Turns.{one_less, returns, next_fold};
 
 use groups::GROUPS;
+use settings::Refusal;
 
 // The least and the greatest weight of a group.
 pub const MIN_WEIGHT: u64 = 1;
@@ -20,25 +23,17 @@ pub struct Turn {
     pub used: u64,
 }
 
-// Whose fold is next.
-#[derive(Clone, Copy)]
-pub enum Next {
-    Group(u64),
-    None,
-    Refused(u8),
-}
-
-// Whose fold is next, and the turn with this fold counted.
+// Whose fold is next, if anybody's, and the turn with this fold counted; a refusal comes with the turn as it was.
 #[derive(Clone, Copy)]
 pub struct Found {
-    pub next: Next,
+    pub next: Result<Option<u64>, Refusal>,
     pub turn: Turn,
 }
 
 // The same with the waiting counts, one less for the group that is named.
 #[derive(Clone, Copy)]
 pub struct Served {
-    pub next: Next,
+    pub next: Result<Option<u64>, Refusal>,
     pub turn: Turn,
     pub waiting: [u32; GROUPS],
 }
@@ -50,12 +45,8 @@ fn weights_inside(weights: &[u64]) -> bool
     ensures { result ≡ weights_inside weights.now }
 {
     let mut all = true;
-    let mut i: usize = 0;
-    while i < GROUPS {
-        if !integers::inside(weights[i], MIN_WEIGHT, MAX_WEIGHT) {
-            all = false;
-        }
-        i += 1;
+    for weight in &weights[..GROUPS] {
+        all &= integers::inside(*weight, MIN_WEIGHT, MAX_WEIGHT);
     }
     all
 }
@@ -65,13 +56,7 @@ fn is_proper(weights: &[u64], group: u64, used: u64) -> bool
     requires { length weights.now ≡ groups }
     ensures { result ≡ is_proper weights.now (turn group used) }
 {
-    if !weights_inside(weights) {
-        return false;
-    }
-    if !groups::is_group(group) {
-        return false;
-    }
-    used <= weights[(group - 1) as usize]
+    weights_inside(weights) && groups::is_group(group) && used <= weights[(group - 1) as usize]
 }
 
 // Whether the turn goes on: its weight is not reached, and its group has a fold waiting.
@@ -83,33 +68,28 @@ fn goes_on(weights: &[u64], waiting: &[u32], group: u64, used: u64) -> bool
     used < weights[at] && 0 < waiting[at]
 }
 
-// The first group after `group` that has a fold waiting, in rising order, from 8 to 1, or 0.
-fn next_waiting(waiting: &[u32], group: u64) -> u64
+// The first group after `group` that has a fold waiting, in rising order, from 8 to 1, if any has.
+fn next_waiting(waiting: &[u32], group: u64) -> Option<u64>
     requires { (length waiting.now ≡ groups) × Group group }
-    ensures { result ≡ next_waiting groups waiting.now group }
+    ensures { result ≡ if_any (next_waiting groups waiting.now group) }
 {
     let mut next = group;
-    let mut i: usize = 0;
-    while i < GROUPS {
+    for _ in 0..GROUPS {
         next = next % (GROUPS as u64) + 1;
         if 0 < waiting[(next - 1) as usize] {
-            return next;
+            return Some(next);
         }
-        i += 1;
     }
-    0
+    None
 }
 
 // An answer, and the turn that goes with it.
-fn with_turn(next: Next, group: u64, used: u64) -> Found
-    ensures { finds (next_of result.next) result.turn ≡ finds (next_of next) (turn group used) }
+fn with_turn(next: Result<Option<u64>, Refusal>, group: u64, used: u64) -> Found
+    ensures { finds (numbered result.next) result.turn ≡ finds (numbered next) (turn group used) }
 {
     Found {
-        next: next,
-        turn: Turn {
-            group: group,
-            used: used,
-        },
+        next,
+        turn: Turn { group, used },
     }
 }
 
@@ -117,21 +97,19 @@ fn with_turn(next: Next, group: u64, used: u64) -> Found
 // `next_fold` and `lova_next_fold` lend it eight weights and eight counts.
 pub fn find_next(weights: &[u64], waiting: &[u32], turn: Turn) -> Found
     requires { (length weights.now ≡ groups) × (length waiting.now ≡ groups) }
-    ensures { finds (next_of result.next) result.turn ≡ found weights.now waiting.now turn }
+    ensures { finds (numbered result.next) result.turn ≡ found weights.now waiting.now turn }
 {
-    let group = turn.group;
-    let used = turn.used;
+    let Turn { group, used } = turn;
     if !is_proper(weights, group, used) {
-        return with_turn(Next::Refused(20), group, used);
+        return with_turn(Err(Refusal::Turn), group, used);
     }
     if goes_on(weights, waiting, group, used) {
-        return with_turn(Next::Group(group), group, used + 1);
+        return with_turn(Ok(Some(group)), group, used + 1);
     }
-    let next = next_waiting(waiting, group);
-    if next == 0 {
-        return with_turn(Next::None, group, used);
+    match next_waiting(waiting, group) {
+        Some(next) => with_turn(Ok(Some(next)), next, 1),
+        None => with_turn(Ok(None), group, used),
     }
-    with_turn(Next::Group(next), next, 1)
 }
 
 // The waiting counts, one less for a group.
@@ -140,26 +118,23 @@ fn one_less(waiting: [u32; GROUPS], group: u64) -> [u32; GROUPS]
     ensures { result ≡ one_less waiting group }
 {
     let mut less = waiting;
-    let at = (group - 1) as usize;
-    less[at] = less[at] - 1;
+    less[(group - 1) as usize] -= 1;
     less
 }
 
 // Names the next fold's group: the turn comes back with this fold counted, and the waiting counts with one less for it.
 pub fn next_fold(weights: [u64; GROUPS], waiting: [u32; GROUPS], turn: Turn) -> Served
-    ensures { returns (next_of result.next) result.turn result.waiting ≡ next_fold weights waiting turn }
+    ensures { returns (numbered result.next) result.turn result.waiting ≡ next_fold weights waiting turn }
 {
-    let found = find_next(&weights, &waiting, turn);
-    let next = found.next;
-    let new = found.turn;
+    let Found { next, turn } = find_next(&weights, &waiting, turn);
     let left = match next {
-        Next::Group(group) => one_less(waiting, group),
-        Next::None => waiting,
-        Next::Refused(_) => waiting,
+        Ok(Some(group)) => one_less(waiting, group),
+        Ok(None) => waiting,
+        Err(_) => waiting,
     };
     Served {
-        next: next,
-        turn: new,
+        next,
+        turn,
         waiting: left,
     }
 }

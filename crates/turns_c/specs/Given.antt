@@ -1,15 +1,15 @@
 -- What `lova_next_fold` leaves.
-use Rattle.std.specs.Prelude.{Bool, cond, ◌&&◌, List, [], ◌∷◌, ℕ, eqb, length, get_or}
+use Rattle.std.specs.Prelude.{Bool, cond, ◌&&◌, List, [], ◌∷◌, ℕ, eqb, length, get_or, Some, None, Ok, Err}
 use Rattle.groups.specs.Groups.{groups}
 use Rattle.turns.specs.declared.Turn.{Turn}
-use Rattle.turns.specs.Turns.{turn, Meaning, named, none, refused, Outcome, next_fold}
+use Rattle.turns.specs.Turns.{turn, Meaning, Outcome, next_fold}
 use Rattle.codes.specs.Codes.{Returned, returned}
 
 -- 0 where a group is named, 104 for none, and a refusal's own number
 unfoldable pub code_of : Meaning → ℕ
-code_of (named g) = 0
-code_of none = 104
-code_of (refused r) = r
+code_of (Ok (Some g)) = 0
+code_of (Ok None) = 104
+code_of (Err r) = r
 
 -- what a caller lends to be written: the waiting counts, and the turn as two numbers, its group and the folds used in it
 pub record Lent : Type 0 where

@@ -7,7 +7,8 @@ ghost use Rattle.codes.specs.Codes.{returned};
 ghost use Rattle.turns_c.specs.Given.{lent, next_given};
 
 use groups::GROUPS;
-use turns::{Next, Turn};
+use settings::Refusal;
+use turns::Turn;
 
 // Names the next fold's group: writes the turn with this fold counted, and one less for that group. Refusals 7 and 20.
 #[unsafe(no_mangle)]
@@ -16,30 +17,30 @@ pub extern "C" fn lova_next_fold(weights: &[u64], waiting: &mut [u32], turn: &mu
         ≡ next_given weights.now (lent waiting.old turn.old) }
 {
     if weights.len() != GROUPS {
-        return 7;
+        return Refusal::Lengths.number();
     }
     if waiting.len() != GROUPS {
-        return 7;
+        return Refusal::Lengths.number();
     }
     if turn.len() != 2 {
-        return 7;
+        return Refusal::Lengths.number();
     }
     let came = Turn {
         group: turn[0],
         used: turn[1],
     };
     let found = turns::find_next(weights, waiting, came);
-    let next = found.next;
-    match next {
-        Next::Group(group) => {
-            let new = found.turn;
-            let at = (group - 1) as usize;
-            turn[0] = new.group;
-            turn[1] = new.used;
-            waiting[at] = waiting[at] - 1;
-            0
-        }
-        Next::None => 104,
-        Next::Refused(number) => number,
+    match found.next {
+        // One match in the other: `Ok(Some(group))` leaves goals open in the proof.
+        Ok(next) => match next {
+            Some(group) => {
+                turn[0] = found.turn.group;
+                turn[1] = found.turn.used;
+                waiting[(group - 1) as usize] -= 1;
+                0
+            }
+            None => 104,
+        },
+        Err(refusal) => refusal.number(),
     }
 }

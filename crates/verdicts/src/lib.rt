@@ -1,216 +1,179 @@
 // Verify: the verdict on a message, and on yes the folded instance.
 #![tactic(auto)]
 
-ghost use Rattle.std.specs.Prelude.{◌≡◌, ◌&&◌, ◌*◌, pos, length};
+ghost use Rattle.std.specs.Prelude.{◌≡◌, ◌&&◌, ◌*◌, ◌<◌, pos, length};
 ghost use Rattle.std.specs.Int.Signed.{le_z};
 ghost use Rattle.integers.specs.Tests.{all};
 ghost use Rattle.matrices.specs.Matrices.{product, both_sides};
 ghost use Rattle.matrices.specs.Tables.{signed};
 ghost use Rattle.settings.specs.Rules.{first_of};
 ghost use Rattle.settings.specs.Settings.{parameters_of, HOf};
+ghost use Rattle.settings.specs.Accepted.{parameters_in};
+ghost use Rattle.settings.specs.Refusals.{number_in};
 ghost use Rattle.lova.specs.Answers.{ends, verdict_of, verdict_leaves};
-ghost use Rattle.lova.specs.Lent.{instance_before, instance_after, message_before};
+ghost use Rattle.lova.specs.Lent.{as_instance, lent_instance, lent_message};
 ghost use Rattle.lova.specs.Stored.{counted, right_of, columns_of, matrix_T, matrix_D, right_D, sent_T~, sent_D~};
 ghost use Rattle.lova.specs.Repeats.{challenge_in};
 ghost use Rattle.lova.specs.Tests.{fits_instance, fits_right, fits_message, fits_C, diagonal_within};
-ghost use Rattle.lova.specs.Calls.{Rebuilt, Fits, FitsC, Bounded};
+ghost use Rattle.lova.specs.Calls.{Fits, FitsC, Bounded};
 ghost use Rattle.lova.specs.Verdict.{verdict_rules, verdict_in};
 
-use lova::{Profile, Verdict};
-use settings::Setting;
+use challenges::Challenge;
+use lova::{Instance, Message, Profile, Verdict};
+use settings::{AcceptedSetting, Refusal, Setting};
 
 // Whether each slice has the length of its matrix.
 fn lengths_fit(
-    setting: Setting,
+    accepted: &AcceptedSetting,
     profile: Profile,
-    t1: &[u64],
-    d1: &[i64],
-    t2: &[u64],
-    d2: &[i64],
-    v: &[i64],
-    tt: &[u64],
-    dd: &[i64],
+    first: Instance,
+    second: Instance,
+    message: Message,
     c: &[u8],
     t: &[u64],
     d: &[i64],
 ) -> bool
-    requires { Rebuilt setting }
     ensures { result
-        ≡ (fits_instance (parameters_of setting) (instance_before t1.now d1.now)
-        && fits_right (parameters_of setting) profile (instance_before t2.now d2.now)
-        && fits_message (parameters_of setting) profile (message_before v.now tt.now dd.now)
-        && fits_C (parameters_of setting) c.now
-        && fits_instance (parameters_of setting) (instance_before t.now d.now)) }
+        ≡ (fits_instance (parameters_in accepted.now) (lent_instance first.entry).instance
+        && fits_right (parameters_in accepted.now) profile (lent_instance second.entry).instance
+        && fits_message (parameters_in accepted.now) profile (lent_message message.entry)
+        && fits_C (parameters_in accepted.now) c.now
+        && fits_instance (parameters_in accepted.now) (as_instance t.now d.now)) }
 {
-    if !scans::instance_fits(setting, Profile::General, t1, d1) {
-        return false;
-    }
-    if !scans::instance_fits(setting, profile, t2, d2) {
-        return false;
-    }
-    if !scans::message_fits(setting, profile, v, tt, dd) {
-        return false;
-    }
-    if c.len() != setting.columns * setting.t {
-        return false;
-    }
-    scans::instance_fits(setting, Profile::General, t, d)
+    scans::instance_fits(accepted, Profile::General, first.t, first.d)
+        && scans::instance_fits(accepted, profile, second.t, second.d)
+        && scans::message_fits(accepted, profile, message.v, message.tt, message.dd)
+        && c.len() == accepted.setting.columns * accepted.setting.t
+        && scans::instance_fits(accepted, Profile::General, t, d)
 }
 
-// 7 where a slice has not the length of its matrix, 15 where the leaf counts cannot be joined, 9 where a byte of c is
-// above 2, 10 where an entry of dd is above H in size, else 0.
-fn verdict_refusal(
-    setting: Setting,
+// The first refusal that applies, if any: of those for lengths, for leaf counts that cannot be joined, for a byte of c
+// above 2, and for an entry of D~ above H in size. Not inlined: within `verify` the scans would lack registers.
+#[inline(never)]
+fn test_verify(
+    accepted: &AcceptedSetting,
     profile: Profile,
-    t1: &[u64],
-    d1: &[i64],
-    leaves1: u32,
-    t2: &[u64],
-    d2: &[i64],
-    leaves2: u32,
-    v: &[i64],
-    tt: &[u64],
-    dd: &[i64],
+    first: Instance,
+    second: Instance,
+    message: Message,
     c: &[u8],
     t: &[u64],
     d: &[i64],
-) -> u8
-    requires { Rebuilt setting }
-    ensures { result
-        ≡ first_of (verdict_rules (parameters_of setting) profile (counted (instance_before t1.now d1.now) leaves1)
-        (counted (instance_before t2.now d2.now) leaves2) (message_before v.now tt.now dd.now) c.now
-        (instance_before t.now d.now)) }
+) -> Result<(), Refusal>
+    ensures { number_in result
+        ≡ first_of (verdict_rules (parameters_in accepted.now) profile (lent_instance first.entry)
+        (lent_instance second.entry) (lent_message message.entry) c.now (as_instance t.now d.now)) }
 {
-    if !lengths_fit(setting, profile, t1, d1, t2, d2, v, tt, dd, c, t, d) {
-        return 7;
+    let setting = &accepted.setting;
+    if !lengths_fit(accepted, profile, first, second, message, c, t, d) {
+        return Err(Refusal::Lengths);
     }
-    if !scans::counts_join(leaves1, leaves2) {
-        return 15;
+    if !scans::counts_join(first.leaves, second.leaves) {
+        return Err(Refusal::Leaves);
     }
     if !scans::are_ternary(c, setting.columns, setting.t) {
-        return 9;
+        return Err(Refusal::Challenge);
     }
     let h = setting.b / 2;
-    if !scans::entries_within(dd, h * h * (setting.m as u64)) {
-        return 10;
+    if !scans::entries_within(message.dd, h * h * (setting.m as u64)) {
+        return Err(Refusal::LargeProduct);
     }
-    0
+    Ok(())
 }
 
-// Whether an entry of D is at most `bound`, as signed numbers. An entry of D1 or D2 meets B here alone.
-fn at_most(entry: i64, bound: u64) -> bool
-    ensures { result ≡ le_z entry (pos bound) }
+// Whether diagonal entry i of d, which has `cols` rows and columns, is at most `bound`, as signed numbers. An entry of
+// D1 or D2 meets B here alone.
+fn entry_within(d: &[i64], cols: usize, i: usize, bound: u64) -> bool
+    requires { (length d.now ≡ cols * cols) × (i < cols) }
+    ensures { result ≡ le_z (signed cols d.now i i) (pos bound) }
 {
-    if entry < 0 {
-        return true;
-    }
-    entry as u64 <= bound
+    let entry = d[i * cols + i];
+    entry < 0 || entry as u64 <= bound
 }
 
-// Whether each diagonal entry of d, which has `cols` rows and columns, is at most `bound`.
+// Whether each diagonal entry is.
 fn diagonal_within(d: &[i64], cols: usize, bound: u64) -> bool
     requires { length d.now ≡ cols * cols }
     ensures { result ≡ all cols (λ i. le_z (signed cols d.now i i) (pos bound)) }
 {
-    let mut i: usize = 0;
-    while i < cols {
-        if !at_most(d[i * cols + i], bound) {
-            return false;
-        }
-        i += 1;
-    }
-    true
+    (0..cols).all(|i| entry_within(d, cols, i, bound))
 }
 
-// Whether no diagonal entry of d1 or d2 exceeds B.
-fn diagonals_hold(setting: Setting, profile: Profile, d1: &[i64], d2: &[i64]) -> bool
-    requires { Fits (matrix_D (parameters_of setting)) d1.now
-        × Fits (right_D (parameters_of setting) profile) d2.now }
-    ensures { result
-        ≡ (diagonal_within (parameters_of setting) d1.now
-        && all (right_of (parameters_of setting) profile)
-        (λ i. le_z ((right_D (parameters_of setting) profile).read d2.now i i) (pos setting.bound))) }
+// Whether no diagonal entry of D1 or D2 exceeds B.
+fn diagonals_hold(accepted: &AcceptedSetting, profile: Profile, d1: &[i64], d2: &[i64]) -> bool
+    requires { Fits (matrix_D (parameters_in accepted.now)) d1.now
+        × Fits (right_D (parameters_in accepted.now) profile) d2.now }
+    ensures { let p = parameters_in accepted.now in
+        result
+        ≡ (diagonal_within p d1.now
+        && all (right_of p profile) (λ i. le_z ((right_D p profile).read d2.now i i) (pos p.bound))) }
 {
-    if !diagonal_within(d1, setting.t, setting.bound) {
-        return false;
-    }
-    diagonal_within(d2, profile.right(setting.t), setting.bound)
+    let setting = &accepted.setting;
+    diagonal_within(d1, setting.t, setting.bound)
+        && diagonal_within(d2, profile.right(setting.t), setting.bound)
 }
 
-// Writes the folded t and d: T~ = tt and D~ = dd by the challenge c, whose rows that meet the same column are added up.
+// Writes the folded t and d: T~ and D~ by the challenge c, whose rows that meet the same column are added up.
 fn write_folded(
-    setting: Setting,
+    accepted: &AcceptedSetting,
     profile: Profile,
-    tt: &[u64],
-    dd: &[i64],
+    message: Message,
     c: &[u8],
     t: &mut [u64],
     d: &mut [i64],
 )
-    requires rebuilt { Rebuilt setting × Fits (sent_T~ (parameters_of setting) profile) tt.now
-        × Fits (sent_D~ (parameters_of setting) profile) dd.now × FitsC (parameters_of setting) c.now
-        × Fits (matrix_T (parameters_of setting)) t.old × Fits (matrix_D (parameters_of setting)) d.old }
-    requires bounded { Bounded (columns_of (parameters_of setting) profile) (columns_of (parameters_of setting) profile)
-        (HOf (parameters_of setting)) ((sent_D~ (parameters_of setting) profile).read dd.now) }
-    ensures t_after { t.new
-        ≡ (matrix_T (parameters_of setting)).write (product (columns_of (parameters_of setting) profile)
-        ((sent_T~ (parameters_of setting) profile).read tt.now)
-        (challenge_in (parameters_of setting) profile c.now)) }
-    ensures d_after { d.new
-        ≡ (matrix_D (parameters_of setting)).write (both_sides (columns_of (parameters_of setting) profile)
-        (challenge_in (parameters_of setting) profile c.now)
-        ((sent_D~ (parameters_of setting) profile).read dd.now)) }
+    requires fits { Fits (sent_T~ (parameters_in accepted.now) profile) message.tt.now
+        × Fits (sent_D~ (parameters_in accepted.now) profile) message.dd.now × FitsC (parameters_in accepted.now) c.now
+        × Fits (matrix_T (parameters_in accepted.now)) t.old × Fits (matrix_D (parameters_in accepted.now)) d.old }
+    requires bounded { let p = parameters_in accepted.now in
+        Bounded (columns_of p profile) (columns_of p profile) (HOf p) ((sent_D~ p profile).read message.dd.now) }
+    ensures t_after { let p = parameters_in accepted.now in
+        t.new
+        ≡ (matrix_T p).write (product (columns_of p profile) ((sent_T~ p profile).read message.entry.tt.now)
+        (challenge_in p profile c.now)) }
+    ensures d_after { let p = parameters_in accepted.now in
+        d.new
+        ≡ (matrix_D p).write (both_sides (columns_of p profile) (challenge_in p profile c.now)
+        ((sent_D~ p profile).read message.entry.dd.now)) }
 {
-    let left = setting.t * setting.k;
-    let block = profile.right(setting.t) * setting.k;
-    let copies = profile.copies(setting.t);
-    challenge_folds::fold_instance(tt, dd, c, setting.n, left, block, copies, setting.t, t, d);
+    let setting = &accepted.setting;
+    let challenge = Challenge {
+        bytes: c,
+        left: setting.t * setting.k,
+        block: profile.right(setting.t) * setting.k,
+        copies: profile.copies(setting.t),
+        columns: setting.t,
+    };
+    challenge_folds::fold_instance(message.tt, message.dd, challenge, setting.n, t, d);
 }
 
-// Judges the message v, tt = T~, dd = D~ on two instances, the second of which may be a fresh one; on yes writes the
-// folded t and d for the challenge c, and the leaves under both are under the folded one.
+// Judges a message on two instances, the second of which may be a fresh one; on yes writes the folded t and d for the
+// challenge c, and the leaves under both are under the folded one.
 pub fn verify(
     setting: Setting,
     profile: Profile,
-    t1: &[u64],
-    d1: &[i64],
-    leaves1: u32,
-    t2: &[u64],
-    d2: &[i64],
-    leaves2: u32,
-    v: &[i64],
-    tt: &[u64],
-    dd: &[i64],
+    first: Instance,
+    second: Instance,
+    message: Message,
     c: &[u8],
     t: &mut [u64],
     d: &mut [i64],
-) -> Verdict
-    ensures { ends (verdict_of result) (counted (instance_after t.new d.new) (verdict_leaves result))
-        ≡ verdict_in (parameters_of setting) profile (counted (instance_before t1.now d1.now) leaves1)
-        (counted (instance_before t2.now d2.now) leaves2) (message_before v.now tt.now dd.now) c.now
-        (instance_before t.old d.old) }
+) -> Result<Verdict, Refusal>
+    ensures { ends (verdict_of result) (counted (as_instance t.new d.new) (verdict_leaves result))
+        ≡ verdict_in (parameters_of setting) profile (lent_instance first.entry) (lent_instance second.entry)
+        (lent_message message.entry) c.now (as_instance t.old d.old) }
 {
-    let checked = setting.rebuilt();
-    let number = checked.refusal;
-    if number != 0 {
-        return Verdict::Refused(number);
+    let accepted = setting.accepted()?;
+    test_verify(&accepted, profile, first, second, message, c, t, d)?;
+    if !diagonals_hold(&accepted, profile, first.d, second.d) {
+        return Ok(Verdict::Long);
     }
-    let accepted = checked.setting;
-    let own = verdict_refusal(
-        accepted, profile, t1, d1, leaves1, t2, d2, leaves2, v, tt, dd, c, t, d,
-    );
-    if own != 0 {
-        return Verdict::Refused(own);
+    if !equations::norm_holds(&accepted, profile, first, second, message) {
+        return Ok(Verdict::Norm);
     }
-    if !diagonals_hold(accepted, profile, d1, d2) {
-        return Verdict::Long;
+    if !equations::commitment_holds(&accepted, profile, first, second, message) {
+        return Ok(Verdict::Commitment);
     }
-    if !equations::norm_holds(accepted, profile, d1, v, d2, dd) {
-        return Verdict::Norm;
-    }
-    if !equations::commitment_holds(accepted, profile, t1, t2, tt) {
-        return Verdict::Commitment;
-    }
-    write_folded(accepted, profile, tt, dd, c, t, d);
-    Verdict::Yes(leaves1 + leaves2)
+    write_folded(&accepted, profile, message, c, t, d);
+    Ok(Verdict::Yes(first.leaves + second.leaves))
 }

@@ -6,13 +6,13 @@
 ghost use Rattle.std.specs.Prelude.{◌≡◌};
 ghost use Rattle.settings.specs.HouseList.{parameters};
 ghost use Rattle.lova.specs.Stored.{counted};
-ghost use Rattle.lova.specs.Lent.{instance_before, instance_after, message_before};
+ghost use Rattle.lova.specs.Lent.{as_instance, as_message};
 ghost use Rattle.lova.specs.Join.{join};
 ghost use Rattle.lova.specs.Verdict.{verdict};
 ghost use Rattle.lova.specs.Relation.{relation};
 ghost use Rattle.codes.specs.Codes.{code_of, returned, coded, placed};
 
-use lova::Profile;
+use lova::{Instance, Message, Profile};
 
 // Join: writes [T1 T2], [D1 V; V-transposed D2] and the sum of the leaf counts. Refusals 1 to 7 and 15.
 #[unsafe(no_mangle)]
@@ -33,27 +33,25 @@ pub extern "C" fn lova_join(
     d_out: &mut [i64],
     leaves_out: &mut u32,
 ) -> u8
-    ensures { returned result (counted (instance_after t_out.new d_out.new) leaves_out.new)
+    ensures { returned result (counted (as_instance t_out.new d_out.new) leaves_out.new)
         ≡ coded (placed leaves_out.old (join (parameters n m t b bound)
-        (counted (instance_before t1.now d1.now) leaves1) (counted (instance_before t2.now d2.now) leaves2) v.now
-        (instance_before t_out.old d_out.old))) }
+        (counted (as_instance t1.now d1.now) leaves1) (counted (as_instance t2.now d2.now) leaves2) v.now
+        (as_instance t_out.old d_out.old))) }
 {
     let setting = codes::setting_of(n, m, t, b, bound);
-    let made = joins::join(
-        setting,
-        Profile::General,
-        t1,
-        d1,
-        leaves1,
-        t2,
-        d2,
-        leaves2,
-        v,
-        t_out,
-        d_out,
-    );
+    let first = Instance {
+        t: t1,
+        d: d1,
+        leaves: leaves1,
+    };
+    let second = Instance {
+        t: t2,
+        d: d2,
+        leaves: leaves2,
+    };
+    let made = joins::join(setting, Profile::General, first, second, v, t_out, d_out);
     *leaves_out = codes::count_of_made(made, *leaves_out);
-    codes::code_of_made(made)
+    codes::code_of_answer(made)
 }
 
 // Verify: the verdict on a message; on yes it writes T', D' and the sum of the leaf counts, on every other verdict the
@@ -79,24 +77,29 @@ pub extern "C" fn lova_verify(
     d_out: &mut [i64],
     leaves_out: &mut u32,
 ) -> u8
-    ensures { returned result (counted (instance_after t_out.new d_out.new) leaves_out.new)
+    ensures { returned result (counted (as_instance t_out.new d_out.new) leaves_out.new)
         ≡ coded (placed leaves_out.old (verdict (parameters n m t b bound)
-        (counted (instance_before t1.now d1.now) leaves1) (counted (instance_before t2.now d2.now) leaves2)
-        (message_before v.now tt.now dd.now) c.now (instance_before t_out.old d_out.old))) }
+        (counted (as_instance t1.now d1.now) leaves1) (counted (as_instance t2.now d2.now) leaves2)
+        (as_message v.now tt.now dd.now) c.now (as_instance t_out.old d_out.old))) }
 {
     let setting = codes::setting_of(n, m, t, b, bound);
+    let first = Instance {
+        t: t1,
+        d: d1,
+        leaves: leaves1,
+    };
+    let second = Instance {
+        t: t2,
+        d: d2,
+        leaves: leaves2,
+    };
+    let message = Message { v, tt, dd };
     let verdict = verdicts::verify(
         setting,
         Profile::General,
-        t1,
-        d1,
-        leaves1,
-        t2,
-        d2,
-        leaves2,
-        v,
-        tt,
-        dd,
+        first,
+        second,
+        message,
         c,
         t_out,
         d_out,
@@ -119,7 +122,7 @@ pub extern "C" fn lova_test_relation(
     s: &[i64],
 ) -> u8
     ensures { result
-        ≡ code_of (relation (parameters n m t b bound) a.now (instance_before t_in.now d_in.now)
+        ≡ code_of (relation (parameters n m t b bound) a.now (as_instance t_in.now d_in.now)
         s.now).answer }
 {
     let setting = codes::setting_of(n, m, t, b, bound);

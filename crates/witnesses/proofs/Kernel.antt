@@ -9,21 +9,30 @@ use lib.ListN.{length}
 use Rattle.matrices.specs.Matrices.{Matrix, product, contracted}
 use Rattle.matrices.specs.Tables.{table, signed, challenge}
 use Rattle.settings.specs.declared.Setting.{Setting}
-use Rattle.settings.specs.Settings.{Parameters, h_of, parameters_of}
+use Rattle.settings.specs.declared.acceptance.AcceptedSetting.{AcceptedSetting}
+use Rattle.settings.specs.Accepted.{parameters_in}
+use Rattle.settings.specs.Settings.{Parameters, h_of}
 use Rattle.small_rows.specs.Small.{SmallMatrix}
 use Rattle.lova.specs.declared.Profile.{Profile}
-use Rattle.lova.specs.Stored.{right_for, copies_for, columns_of, matrix_S~}
+use Rattle.lova.specs.Stored.{right_for, copies_for, columns_of, matrix_S~, size_C}
 use Rattle.lova.specs.Repeats.{repeated_S~}
 use Rattle.lova.specs.Calls.{Rebuilt, ProperWitness}
 use Rattle.lova.specs.Witness.{folded_witness}
 use Rattle.lova.proofs.Tests.{bounded-everywhere}
-use Rattle.lova.proofs.Rebuilding.{rebuilt-accepted}
+use Rattle.lova.proofs.Rebuilding.{rebuilt-accepted, rebuilt-is}
 use Rattle.lova.proofs.Widths.{wide_high, parts_are, copies_are, copies_some, copies_few, challenge-is}
 use Rattle.lova.proofs.Computed.{witness-once}
 
-module _ (s : Setting) (whole : Rebuilt s) (f : Profile) (right : ℕ) (right_is : right ≡ right_for s.t f) (copies : ℕ) (copies-is : copies ≡ copies_for s.t f) (S~ : List ℤ) (C : List ℕ) where
+module _ (accepted : AcceptedSetting) (f : Profile) (right : ℕ) (right_is : right ≡ right_for accepted.setting.t f)
+    (copies : ℕ) (copies-is : copies ≡ copies_for accepted.setting.t f) (S~ : List ℤ) (C : List ℕ) where
+  abbrev s : Setting
+  s = accepted.setting
+
+  whole : Rebuilt s
+  whole = rebuilt-is accepted
+
   abbrev q : Parameters
-  q = parameters_of s
+  q = parameters_in accepted
 
   abbrev left : ℕ
   left = s.t * s.k
@@ -34,9 +43,17 @@ module _ (s : Setting) (whole : Rebuilt s) (f : Profile) (right : ℕ) (right_is
   wide : left + block ≡ columns_of q f
   wide = parts_are s whole f right right_is
 
-  -- a digit witness of few columns and small entries, few copies, and lengths
+  -- the challenge has as many bytes as its blocks, and few copies
+  pub challenge-whole : length C ≡ size_C q → (length C ≡ (left + copies * block) * s.t) × (1 ≤ copies) × (copies ≤ 16)
+  challenge-whole l = (
+    rw (copies_are s whole f right right_is copies copies-is) l,
+    copies_some s whole f right right_is copies copies-is,
+    copies_few s whole f right right_is copies copies-is,
+  )
+
+  -- a digit witness of few columns and small entries, and lengths
   pub fold_asks : (out : List ℤ) → ProperWitness q f S~ C out
-      → SmallMatrix 32767 s.m (left + block) S~ × (s.t ≤ 16) × (1 ≤ copies) × (copies ≤ 16) × (length C ≡ (left + copies * block) * s.t) × (length out ≡ s.m * s.t)
+      → SmallMatrix 32767 s.m (left + block) S~ × (s.t ≤ 16) × (length out ≡ s.m * s.t)
   fold_asks out proper =
       let l = proper.lengths in (
         record {
@@ -45,9 +62,6 @@ module _ (s : Setting) (whole : Rebuilt s) (f : Profile) (right : ℕ) (right_is
           small = λ i. le_trans (bounded-everywhere s.m (columns_of q f) (h_of q) S~ l.0 proper.entries i) (omega (arith, (rebuilt-accepted s whole).digits-small));
         },
         (rebuilt-accepted s whole).t-high,
-        copies_some s whole f right right_is copies copies-is,
-        copies_few s whole f right right_is copies copies-is,
-        rw (copies_are s whole f right right_is copies copies-is) l.1,
         l.2,
       )
 

@@ -2,25 +2,33 @@
 #![tactic(auto)]
 
 ghost use Rattle.std.specs.Prelude.{◌≡◌, ◌&&◌};
+ghost use Rattle.settings.specs.Accepted.{parameters_in};
+ghost use Rattle.settings.specs.Refusals.{number_in};
 ghost use Rattle.settings.specs.Rules.{first_of};
 ghost use Rattle.settings.specs.Settings.{parameters_of};
 ghost use Rattle.lova.specs.Answers.{ends, answer_of};
 ghost use Rattle.lova.specs.Stored.{matrix_S, sent_S~};
 ghost use Rattle.lova.specs.Tests.{fits, fits_C};
-ghost use Rattle.lova.specs.Calls.{Rebuilt};
 ghost use Rattle.lova.specs.Witness.{witness_rules, witness_in};
 
-use lova::{Answer, Profile};
-use settings::Setting;
+use challenges::Challenge;
+use lova::Profile;
+use settings::{AcceptedSetting, Refusal, Setting};
 
 // Whether the slices have the lengths of their matrices.
-fn witness_lengths(setting: Setting, profile: Profile, ss: &[i64], c: &[u8], s: &[i64]) -> bool
-    requires { Rebuilt setting }
+fn lengths_fit(
+    accepted: &AcceptedSetting,
+    profile: Profile,
+    ss: &[i64],
+    c: &[u8],
+    s: &[i64],
+) -> bool
     ensures { result
-        ≡ (fits (sent_S~ (parameters_of setting) profile) ss.now
-        && fits_C (parameters_of setting) c.now
-        && fits (matrix_S (parameters_of setting)) s.now) }
+        ≡ (fits (sent_S~ (parameters_in accepted.now) profile) ss.now
+        && fits_C (parameters_in accepted.now) c.now
+        && fits (matrix_S (parameters_in accepted.now)) s.now) }
 {
+    let setting = &accepted.setting;
     let right = profile.right(setting.t);
     let wide = (setting.t + right) * setting.k;
     let inputs = scans::both(
@@ -30,23 +38,29 @@ fn witness_lengths(setting: Setting, profile: Profile, ss: &[i64], c: &[u8], s: 
     scans::both(inputs, s.len() == setting.m * setting.t)
 }
 
-// The first of 7, 9 and 11 that applies, or 0.
-fn witness_refusal(setting: Setting, profile: Profile, ss: &[i64], c: &[u8], s: &[i64]) -> u8
-    requires { Rebuilt setting }
-    ensures { result
-        ≡ first_of (witness_rules (parameters_of setting) profile ss.now c.now
+// The first refusal that applies of those for lengths, for the challenge and for a large digit, if any.
+fn test_fold(
+    accepted: &AcceptedSetting,
+    profile: Profile,
+    ss: &[i64],
+    c: &[u8],
+    s: &[i64],
+) -> Result<(), Refusal>
+    ensures { number_in result
+        ≡ first_of (witness_rules (parameters_in accepted.now) profile ss.now c.now
         s.now) }
 {
-    if !witness_lengths(setting, profile, ss, c, s) {
-        return 7;
+    if !lengths_fit(accepted, profile, ss, c, s) {
+        return Err(Refusal::Lengths);
     }
+    let setting = &accepted.setting;
     if !scans::are_ternary(c, setting.columns, setting.t) {
-        return 9;
+        return Err(Refusal::Challenge);
     }
     if !scans::entries_within(ss, setting.b / 2) {
-        return 11;
+        return Err(Refusal::LargeDigit);
     }
-    0
+    Ok(())
 }
 
 // Writes s = S' = S~ C for the digit witness ss = S~ and the challenge c; the rows of C that meet the same column of a
@@ -57,23 +71,20 @@ pub fn fold_witness(
     ss: &[i64],
     c: &[u8],
     s: &mut [i64],
-) -> Answer
+) -> Result<(), Refusal>
     ensures { ends (answer_of result) s.new
         ≡ witness_in (parameters_of setting) profile ss.now c.now s.old }
 {
-    let checked = setting.rebuilt();
-    let number = checked.refusal;
-    if number != 0 {
-        return Answer::Refused(number);
-    }
-    let accepted = checked.setting;
-    let own = witness_refusal(accepted, profile, ss, c, s);
-    if own != 0 {
-        return Answer::Refused(own);
-    }
-    let left = accepted.t * accepted.k;
-    let block = profile.right(accepted.t) * accepted.k;
-    let copies = profile.copies(accepted.t);
-    challenge_folds::fold_digits(ss, c, accepted.m, left, block, copies, accepted.t, s);
-    Answer::Done
+    let accepted = setting.accepted()?;
+    test_fold(&accepted, profile, ss, c, s)?;
+    let Setting { m, t, k, .. } = accepted.setting;
+    let challenge = Challenge {
+        bytes: c,
+        left: t * k,
+        block: profile.right(t) * k,
+        copies: profile.copies(t),
+        columns: t,
+    };
+    challenge_folds::fold_digits(ss, challenge, m, s);
+    Ok(())
 }

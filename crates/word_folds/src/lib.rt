@@ -16,9 +16,7 @@ fn fold_column(x: &[u64], q: &[i16], cols: usize, j: usize) -> u64
     ensures { result ≡ word (row_times cols x.now (by_columns q.now) j) }
 {
     let mut sum: u64 = 0;
-    let mut k = cols;
-    while 0 < k {
-        k -= 1;
+    for k in (0..cols).rev() {
         let y = q[j * 512 + k];
         sum = matrices::add_signed_product(sum, x[k], y as i64);
     }
@@ -32,27 +30,25 @@ fn fold_row(x: &[u64], q: &[i16], cols: usize, t: usize, row: &mut [u64])
     ensures { row.new
         ≡ build t (λ j. word (row_times cols x.now (by_columns q.now) j)) }
 {
-    let mut j: usize = 0;
-    while j < t {
-        row[j] = fold_column(x, q, cols, j);
-        j += 1;
+    for (j, out) in row.iter_mut().enumerate() {
+        *out = fold_column(x, q, cols, j);
     }
 }
 
 // x times q modulo 2^64, as T' is T~ C: x has n rows and `cols` columns, q has `cols` rows and t columns of 512 places.
+// q is a slice and no type: `product_t` is lent it by C.
 pub fn fold_commitment(x: &[u64], q: &[i16], n: usize, cols: usize, t: usize, out: &mut [u64])
     requires { (length x.now ≡ n * cols) × (cols ≤ 512) × (t * 512 ≤ length q.now)
         × (length out.old ≡ n * t) }
     ensures { out.new
         ≡ residues n t (product cols (unsigned cols x.now) (by_columns q.now)) }
 {
-    let mut i: usize = 0;
-    while i < n {
+    // By ranges: there may be no columns, and `chunks_exact` takes no size of 0.
+    for i in 0..n {
         let from = i * cols;
         let to = from + cols;
         let start = i * t;
         let end = start + t;
         fold_row(&x[from..to], q, cols, t, &mut out[start..end]);
-        i += 1;
     }
 }

@@ -1,4 +1,5 @@
 // The product A S modulo 2^64 of a matrix of words and a witness, stored by rows.
+// Rows are cut by their ranges: `chunks_exact` asks for a width above 0, which `commitment` does not ask of callers.
 #![tactic(auto)]
 
 ghost use Rattle.std.specs.Prelude.{◌≡◌, ◌+◌, ◌*◌, ◌<◌, ◌≤◌, length};
@@ -11,6 +12,9 @@ ghost use Rattle.word_rows.specs.Rows.{row_times};
 
 mod multiples;
 
+// How many rows of s a block takes: 128 of the widest fill half a megabyte of the cache.
+const BLOCK: usize = 128;
+
 // Adds the row x times s to `row`, four rows of s a pass while four are left, and answers how many rows it took. A loop
 // that chose between four rows and one in every pass would be slower.
 fn add_fours(x: &[u64], s: &[i64], cols: usize, row: &mut [u64]) -> usize
@@ -19,15 +23,14 @@ fn add_fours(x: &[u64], s: &[i64], cols: usize, row: &mut [u64]) -> usize
         × Added modulo (row_times result x.now (signed cols s.now)) 0 (length row.old)
         row.old row.new }
 {
-    let mut k: usize = 0;
-    let mut start: usize = 0;
-    while x.len() - k >= 4 {
+    let fours = x.len() / 4;
+    for four in 0..fours {
+        let k = 4 * four;
+        let start = k * cols;
         let end = start + 4 * cols;
         multiples::add_four_rows(&x[k..k + 4], &s[start..end], cols, row);
-        start = end;
-        k += 4;
     }
-    k
+    4 * fours
 }
 
 // Adds the row x times s to `row`: fours first, and the last rows one by one.
@@ -37,12 +40,11 @@ fn add_rows(x: &[u64], s: &[i64], cols: usize, row: &mut [u64])
         (row_times (length x.now) x.now (signed cols s.now)) 0
         (length row.old) row.old row.new }
 {
-    let mut k = add_fours(x, s, cols, row);
-    while k < x.len() {
+    let taken = add_fours(x, s, cols, row);
+    for k in taken..x.len() {
         let start = k * cols;
         let end = start + cols;
         multiples::add_row(x[k], &s[start..end], row);
-        k += 1;
     }
 }
 
@@ -78,53 +80,39 @@ fn add_block(
 {
     let top = base * cols;
     let bottom = top + len * cols;
-    let mut i: usize = 0;
-    while i < n {
+    for i in 0..n {
         let from = i * m + base;
         let to = from + len;
         let start = i * cols;
         let end = start + cols;
         add_rows(&a[from..to], &s[top..bottom], cols, &mut out[start..end]);
-        i += 1;
     }
 }
 
-// How many of the rows of s that are left the next block takes: 128 of the widest fill half a megabyte of the cache.
-fn block_length(left: usize) -> usize
-    requires { 0 < left }
-    ensures { (0 < result) × (result ≤ left) }
-{
-    if left < 128 { left } else { 128 }
-}
-
 // a times s, block by block of the rows of s.
+// Six values, since `product_tt` is given them one by one from C.
 fn commit_wide(a: &[u64], s: &[i64], n: usize, m: usize, cols: usize, out: &mut [u64])
     requires { (length a.now ≡ n * m) × (length s.now ≡ m * cols) × (length out.old ≡ n * cols) }
     ensures { out.new
         ≡ residues n cols (product m (unsigned m a.now) (signed cols s.now)) }
 {
     word_rows::clear_row(out);
-    let mut base: usize = 0;
-    while base < m {
-        let len = block_length(m - base);
-        add_block(a, s, n, m, cols, base, len, out);
-        base += len;
+    for base in (0..m).step_by(BLOCK) {
+        add_block(a, s, n, m, cols, base, BLOCK.min(m - base), out);
     }
 }
 
-// The row x, of m words, times column j of s. Its entries are found by adding: k * cols + j would be a multiplication
-// more for each product.
-fn times_column(x: &[u64], s: &[i64], m: usize, cols: usize, j: usize) -> u64
-    requires { (length x.now ≡ m) × (length s.now ≡ m * cols) × (j < cols) }
-    ensures { result ≡ word (row_times m x.now (signed cols s.now) j) }
+// The row x times column j of s. Its entries are found by adding: k * cols + j would be a multiplication more for each
+// product, and `skip(j).step_by(cols)` a second compare, of what is left of s with the step.
+fn times_column(x: &[u64], s: &[i64], cols: usize, j: usize) -> u64
+    requires { (length s.now ≡ length x.now * cols) × (j < cols) }
+    ensures { result ≡ word (row_times (length x.now) x.now (signed cols s.now) j) }
 {
     let mut sum: u64 = 0;
     let mut at = j;
-    let mut k: usize = 0;
-    while k < m {
-        sum = matrices::add_signed_product(sum, x[k], s[at]);
+    for word in x {
+        sum = matrices::add_signed_product(sum, *word, s[at]);
         at += cols;
-        k += 1;
     }
     sum
 }
@@ -136,14 +124,13 @@ fn write_columns(x: &[u64], s: &[i64], cols: usize, row: &mut [u64])
         ≡ build cols
         (λ j. word (row_times (length x.now) x.now (signed cols s.now) j)) }
 {
-    let mut j: usize = 0;
-    while j < cols {
-        row[j] = times_column(x, s, x.len(), cols, j);
-        j += 1;
+    for (j, word) in row.iter_mut().enumerate() {
+        *word = times_column(x, s, cols, j);
     }
 }
 
-// Writes the row x, of at least one word, times s into `row`: a short row by the rows of s, a longer one by its columns.
+// Writes the row x, of at least one word, times s into `row`: a short row by the rows of s, a longer one by its
+// columns.
 fn write_product(x: &[u64], s: &[i64], cols: usize, row: &mut [u64])
     requires { (length s.now ≡ length x.now * cols) × (length row.old ≡ cols)
         × (0 < length x.now) }
@@ -165,14 +152,12 @@ fn commit_rows(a: &[u64], s: &[i64], n: usize, m: usize, cols: usize, out: &mut 
     ensures { out.new
         ≡ residues n cols (product m (unsigned m a.now) (signed cols s.now)) }
 {
-    let mut i: usize = 0;
-    while i < n {
+    for i in 0..n {
         let from = i * m;
         let to = from + m;
         let start = i * cols;
         let end = start + cols;
         write_product(&a[from..to], s, cols, &mut out[start..end]);
-        i += 1;
     }
 }
 
@@ -182,13 +167,10 @@ fn commit_narrow(a: &[u64], s: &[i64], n: usize, m: usize, cols: usize, out: &mu
     ensures { out.new
         ≡ residues n cols (product m (unsigned m a.now) (signed cols s.now)) }
 {
-    let end = n * cols;
-    let mut e: usize = 0;
-    while e < end {
+    for (e, word) in out.iter_mut().enumerate() {
         let from = e / cols * m;
         let to = from + m;
-        out[e] = times_column(&a[from..to], s, m, cols, e % cols);
-        e += 1;
+        *word = times_column(&a[from..to], s, cols, e % cols);
     }
 }
 

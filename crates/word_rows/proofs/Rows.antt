@@ -13,7 +13,7 @@ use mir.Val.{SFits, to_z, of_z}
 use mir.ValLaws.{to_z-of_z}
 use Rattle.integers.specs.Lists.{build}
 use Rattle.integers.specs.Sums.{sum}
-use Rattle.integers.specs.Residues.{residue, word}
+use Rattle.integers.specs.Residues.{word}
 use Rattle.integers.proofs.Lists.{build_cong}
 use Rattle.integers.proofs.Sums.{sum_cong, sum_step, sum-split}
 use Rattle.integers.proofs.Residues.{residue-small}
@@ -37,11 +37,6 @@ module _ (b : ℕ) (f : ℕ → ℤ) where
       → s ≡ word (pos b +ℤ sum 4 f)
   unfolding sum
   four-on e₀ e₁ e₂ e₃ = next-on modulo modulo-sums (pos b) 3 f (next-on modulo modulo-sums (pos b) 2 f (next-on modulo modulo-sums (pos b) 1 f (e₀ ∙ ap (λ (z : ℤ). word (pos b +ℤ z)) (sym (+ℤ_idl (f 0)))) e₁) e₂) e₃
-
--- a row of zeros holds the product of no words
-pub times_none : (n : ℕ) (x : List ℕ) (Y : Matrix) → build n (λ j. 0) ≡ build n (λ j. word (row_times 0 x Y j))
-unfolding sum residue
-times_none n x Y = refl
 
 -- an element of the part of a list that starts at b and has n elements
 part_at : {A : Type 0} (d : A) (b n : ℕ) (xs : List A) (j : ℕ) → j < n → get_or (take (b + n - b) (drop b xs)) j d ≡ get_or xs (b + j) d

@@ -4,13 +4,10 @@
 ghost use Rattle.std.specs.Prelude.{◌≡◌, length};
 ghost use Rattle.integers.specs.Lists.{build};
 
-// Fills a row with zeros.
+// Fills a row with zeros. A name of ours for `fill`: the contract says it by `build`, as the proof of `word_products`
+// reads a row, and must-fail has two wrong versions of it.
 pub fn clear_row(row: &mut [u64])
     ensures { row.new ≡ build (length row.old) (λ _. 0) }
 {
-    let mut j: usize = 0;
-    while j < row.len() {
-        row[j] = 0;
-        j += 1;
-    }
+    row.fill(0);
 }

@@ -1,16 +1,18 @@
 -- `chain::is_small` meets its contract: each of the four is tested, and k is the record's.
-use mathlib.Core.Path.{◌∙◌, ap, ap₂}
-use mathlib.Core.Bool.{Bool, ◌&&◌}
-use Prim.Native.Nat.{ℕ}
-use lib.Dec.{leb}
-use Rattle.lova.proofs.Rebuilding.{k-is}
+use Rattle.std.proofs.Common.{rules, refl}
+use borrow.Author.Tests.{le-leb}
+use Rattle.lova.proofs.Rebuilding.{rebuilt-is, k-is}
 use Rattle.chain.specs.Limits.{small}
 use Rattle.chain.proofs.is_small.Goals as goal
 
-pub returns : goal.returns
+pub returns-then-t-le-MAX_T : goal.returns-then-t-le-MAX_T
 unfolding small
-returns c =
-    let s = c in
-    let a = s.args in
-    let sizes = c.both.ensures ∙ ap (λ (x : Bool). x && leb a.setting.t 2) c.both-sizes.ensures in
-    c.both-2.ensures ∙ ap₂ (λ (x : Bool) (k : ℕ). x && leb k 8) sizes (k-is a.setting s.requires)
+returns-then-t-le-MAX_T c =
+    let a = c.args.accepted.now in
+    let s = a.setting in
+    let h = c.if-t-le-MAX_T.true in
+    rw (le-leb s.n 8 h.0, le-leb s.m 16 h.1, le-leb s.t 2 h.2, k-is s (rebuilt-is a)) refl
+
+pub returns-else-t-le-MAX_T : goal.returns-else-t-le-MAX_T
+unfolding small
+returns-else-t-le-MAX_T c = let h = c.if-t-le-MAX_T in search rules

@@ -1,19 +1,17 @@
 -- `challenge_folds::fold_digits_in` meets its contract: the product is by the decoded challenge.
-use Prim.Native.Nat.{◌+◌}
-use native.Mathlib.Omega.{arith}
-use Rattle.matrices.specs.Matrices.{contracted}
-use Rattle.matrices.specs.Tables.{signed, challenge}
+use Rattle.std.proofs.Common.{arith}
+use Rattle.matrices.specs.Tables.{signed}
+use Rattle.challenges.specs.Challenges.{rows_of, folded}
 use Rattle.challenge_folds.proofs.Folds.{product-same}
 use Rattle.challenge_folds.proofs.fold_digits_in.Goals as goal
 
 pub small_fold-requires : goal.small_fold-requires
 small_fold-requires c =
     let h = c.requires in
-    (h.0, c.decode.ensures.1, omega (arith, h.5, c.decode.auto.q), h.4)
+    (h.0, c.decode.ensures.1, omega (arith, h.2, c.decode.auto.q), h.1)
 
 pub returns : goal.returns
 returns c =
     let a = c.args in
-    let rows = a.left + a.block in
-    product-same rows a.t c.decode.new.q (contracted a.left a.block a.copies (challenge a.t a.c.now)) c.decode.ensures.0
-    a.m (signed rows a.ss.now) _ c.small_fold.ensures
+    let rows = rows_of a.c in
+    product-same rows a.c.columns c.decode.new.q (folded a.c) c.decode.ensures.0 a.m (signed rows a.ss.now) _ c.small_fold.ensures

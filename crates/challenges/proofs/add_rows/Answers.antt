@@ -15,7 +15,7 @@ use Rattle.matrices.proofs.Elements.{added_none, added-up}
 use Rattle.matrices.proofs.Ternary.{ternary-size}
 use Rattle.challenges.proofs.Sums.{plus}
 use Rattle.challenges.proofs.add_rows.Goals as goal
-use Rattle.challenges.proofs.add_rows.Goals.{After-sum-1, In-loop-k, Start}
+use Rattle.challenges.proofs.add_rows.Goals.{After-number, In-loop-k, Start}
 
 pub loop-k-init : goal.loop-k-init
 loop-k-init c =
@@ -37,41 +37,29 @@ overflow_add-k c =
     let l : n ≤ n = omega arith in
     omega (arith, cell c, mul-le-mul l h)
 
-pub overflow_mul-k : goal.overflow_mul-k
-overflow_mul-k c = omega (arith, cell c)
-
-pub overflow_add-k-in-loop-k : goal.overflow_add-k-in-loop-k
-overflow_add-k-in-loop-k c = omega (arith, cell c)
-
-pub bounds-c-k : goal.bounds-c-k
-bounds-c-k c = cell (goal.at.bounds-c-k c).In-loop-k
-
 -- the number that a turn makes
-turn : (c : After-sum-1) →
+turn : (c : After-number) →
     let a = c.args in
     let y = get_or c.loop-k.column c.loop-k.k (pos 0) in
     let x = challenge a.t a.c.now (c.loop-k.k + a.further) a.j in
-    Held w16 (to_z w16 (of_z w16 y) +ℤ to_z w16 (of_z w16 c.number-x.result)) (y +ℤ x)
+    Held w16 (to_z w16 (of_z w16 y) +ℤ to_z w16 (of_z w16 c.number.result)) (y +ℤ x)
 turn c =
     let a = c.args in
     let k = c.loop-k.k in
     let y = get_or c.loop-k.column k (pos 0) in
     let v = entry 0 a.t a.c.now (k + a.further) a.j in
     let small : nat_abs y ≤ 15 = rw (c.loop-k.invariant.1.above k (omega arith)) (c.requires.3 k) in
-    plus y (ternary v) c.number-x.ensures small (ternary-size v)
+    plus y (ternary v) c.number.ensures small (ternary-size v)
 
-pub overflow_add-sum : goal.overflow_add-sum
-overflow_add-sum c = (turn c).fits
+pub overflow_add-column : goal.overflow_add-column
+overflow_add-column c = (turn (goal.at.overflow_add-column c).After-number).fits
 
 pub loop-k-preserved : goal.loop-k-preserved
 loop-k-preserved c =
     let a = c.args in (
       omega arith,
-      added-up exactly (λ k. challenge a.t a.c.now (k + a.further) a.j) a.from c.loop-k.k a.column.now c.loop-k.column _ c.loop-k.invariant.1 (omega arith) (turn c).read,
+      added-up exactly (λ k. challenge a.t a.c.now (k + a.further) a.j) a.from c.loop-k.k a.column.now c.loop-k.column _ c.loop-k.invariant.1 (omega arith) (turn (goal.at.loop-k-preserved c).After-number).read,
     )
-
-pub shape_of-column : goal.shape_of-column
-shape_of-column c = c.loop-k.invariant.1.long
 
 pub returns : goal.returns
 returns c =

@@ -34,9 +34,6 @@ factor : (c : After-v-1) →
 factor c =
     widened (by_columns c.args.q.now c.loop-k.k c.args.j) (record { sfits = c.v-1.given })
 
-pub overflow_cast-v : goal.overflow_cast-v
-overflow_cast-v c = (factor c.before).fits
-
 pub add_product-a-requires : goal.add_product-a-requires
 add_product-a-requires c =
     let a = c.args in

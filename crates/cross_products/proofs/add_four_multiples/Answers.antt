@@ -17,58 +17,10 @@ added c =
     let a = c.args in
     product 4 (transposed (signed a.rows a.x.now)) (signed a.cols a.y.now) a.i
 
-pub offset_bounds-x-i : goal.offset_bounds-x-i
-offset_bounds-x-i c = omega arith
-
-pub bounds-x-i : goal.bounds-x-i
-bounds-x-i c = omega arith
-
-pub overflow_add-x1 : goal.overflow_add-x1
-overflow_add-x1 c = omega arith
-
-pub offset_bounds-x-rows : goal.offset_bounds-x-rows
-offset_bounds-x-rows c = omega arith
-
-pub bounds-x-rows : goal.bounds-x-rows
-bounds-x-rows c = omega arith
-
-pub overflow_mul-x2 : goal.overflow_mul-x2
-overflow_mul-x2 c = omega arith
-
-pub overflow_add-x2 : goal.overflow_add-x2
-overflow_add-x2 c = omega arith
-
-pub offset_bounds-x-rows-2 : goal.offset_bounds-x-rows-2
-offset_bounds-x-rows-2 c = omega arith
-
-pub bounds-x-rows-2 : goal.bounds-x-rows-2
-bounds-x-rows-2 c = omega arith
-
-pub overflow_mul-x3 : goal.overflow_mul-x3
-overflow_mul-x3 c = omega arith
-
-pub overflow_add-x3 : goal.overflow_add-x3
-overflow_add-x3 c = omega arith
-
-pub offset_bounds-x-rows-3 : goal.offset_bounds-x-rows-3
-offset_bounds-x-rows-3 c = omega arith
-
-pub bounds-x-rows-3 : goal.bounds-x-rows-3
-bounds-x-rows-3 c = omega arith
-
 pub loop-j-init : goal.loop-j-init
 loop-j-init c =
     let s = (goal.at.loop-j-init c).Start in
     rw s.requires.x_len.3 (added_none exactly (added s) s.args.cols s.args.row.now)
-
-pub overflow_sub-j : goal.overflow_sub-j
-overflow_sub-j c = omega arith
-
-pub offset_bounds-row-j : goal.offset_bounds-row-j
-offset_bounds-row-j c = omega arith
-
-pub slice_copy_out-four_more : goal.slice_copy_out-four_more
-slice_copy_out-four_more c = omega arith
 
 -- the numbers that a turn reads
 fit : (c : After-four_more-arg-1) →
@@ -98,15 +50,6 @@ four_more-requires c =
           (rw (l.loop-j.invariant.below j (omega arith)) (s.requires.row_room j h));
     }
 
-pub offset_bounds-row-j-in-loop-j : goal.offset_bounds-row-j-in-loop-j
-offset_bounds-row-j-in-loop-j c = omega arith
-
-pub bounds-row-j : goal.bounds-row-j
-bounds-row-j c = omega arith
-
-pub loop-j-smaller : goal.loop-j-smaller
-loop-j-smaller c = omega arith
-
 pub loop-j-preserved : goal.loop-j-preserved
 loop-j-preserved c =
     let l = c.loop-j in
@@ -117,9 +60,6 @@ loop-j-preserved c =
     (omega arith) (omega (arith, l.invariant.within, l.invariant.long))
     (four-sum a.rows a.cols a.i (l.j - 1) a.x.now a.y.now (get_or l.row (l.j - 1) (pos 0))
     (fit (goal.at.loop-j-preserved c).After-four_more-arg-1) r.ensures (record { sfits = r.type_inv }))
-
-pub shape_of-row : goal.shape_of-row
-shape_of-row c = omega arith
 
 pub returns : goal.returns
 returns c =

@@ -8,6 +8,3 @@ use Rattle.cross_products.proofs.add_four_multiples.Given as goal
 abbrev pub invariant-loop-j : goal.invariant-loop-j
 invariant-loop-j l =
     Added exactly (product 4 (transposed (signed l.rows l.x)) (signed l.cols l.y) l.i) l.j (length l.initial.row) l.initial.row l.row
-
-abbrev pub decreases-loop-j : goal.decreases-loop-j
-decreases-loop-j l = l.j

@@ -26,24 +26,6 @@ row c = let a = c.args in row_within a.rows a.cols c.loop-i.i c.loop-i-test.true
 size : (c : At-loop-i) → length c.loop-i.out ≡ c.args.rows * c.args.cols
 size c = c.loop-i.invariant.1.long ∙ c.requires.x_len.2
 
-pub overflow_mul-start : goal.overflow_mul-start
-overflow_mul-start c = omega (arith, row c)
-
-pub overflow_add-end : goal.overflow_add-end
-overflow_add-end c = omega (arith, row c)
-
-pub offset_bounds-out-start : goal.offset_bounds-out-start
-offset_bounds-out-start c = omega (arith, row c)
-
-pub slice_bounds-add_four_multiples-count : goal.slice_bounds-add_four_multiples-count
-slice_bounds-add_four_multiples-count c = omega arith
-
-pub slice_bounds-add_four_multiples-start : goal.slice_bounds-add_four_multiples-start
-slice_bounds-add_four_multiples-start c = omega (arith, row c)
-
-pub slice_bounds-add_four_multiples-end : goal.slice_bounds-add_four_multiples-end
-slice_bounds-add_four_multiples-end c = omega (arith, row c, size (goal.at.slice_bounds-add_four_multiples-end c).At-loop-i)
-
 pub add_four_multiples-requires : goal.add_four_multiples-requires
 add_four_multiples-requires c =
     let l = (goal.at.add_four_multiples-requires c).At-loop-i in

@@ -1,7 +1,7 @@
 -- `cross_products::add_lower` meets its contract: the products are added to the first i rows of the triangle.
 use mathlib.Core.Path.{◌≡◌, refl, sym, ◌∙◌}
 use mathlib.Core.List.{List}
-use Prim.Native.Nat.{◌+◌, ◌-◌, ◌≤◌}
+use Prim.Native.Nat.{◌<◌, ◌+◌, ◌-◌, ◌≤◌}
 use native.Mathlib.Omega.{arith}
 use lib.IntN.{ℤ, pos}
 use lib.ListN.{length, get_or, take, drop}
@@ -27,35 +27,24 @@ after c = mirrored_plus c.args.out.now (added c)
 pub loop-i-init : goal.loop-i-init
 loop-i-init c = lower-added-none c.args.n (added c) c.args.out.now c.requires.y_len.1
 
+-- a turn's number is one of them
+below : (c : In-loop-i) → c.loop-i.i < c.args.n
+below c = omega (arith, c.loop-i-test.true, c.requires.y_len.0)
+
 -- row i lies within `out`
 row : (c : In-loop-i) → let l = c.loop-i in l.start + l.i + 1 ≤ length l.out
 row c =
     let l = c.loop-i in
-    lower-within c.args.n (after (goal.at.In-loop-i c).Start) l.i l.start l.out c.loop-i-test.true l.invariant.rows
-
-pub overflow_add-end : goal.overflow_add-end
-overflow_add-end c = omega (arith, row c)
-
-pub overflow_add-end-in-loop-i : goal.overflow_add-end-in-loop-i
-overflow_add-end-in-loop-i c = omega (arith, row c)
-
-pub bounds-y-i : goal.bounds-y-i
-bounds-y-i c = omega (arith, c.requires.y_len.0)
+    lower-within c.args.n (after (goal.at.In-loop-i c).Start) l.i l.start l.out (below c) l.invariant.rows
 
 -- the numbers of y up to number i, when they are lent
 front : (c : In-loop-i) → length (take (c.loop-i.i + 1) c.args.y.now) ≡ c.loop-i.i + 1
 front c =
     let s = c in
-    front_long s.args.y.now c.loop-i.i (omega (arith, c.loop-i-test.true, s.requires.y_len.0))
+    front_long s.args.y.now c.loop-i.i (omega (arith, (below c), s.requires.y_len.0))
 
 pub slice_bounds-add_multiple-end : goal.slice_bounds-add_multiple-end
 slice_bounds-add_multiple-end c = sym (front (goal.at.slice_bounds-add_multiple-end c).In-loop-i)
-
-pub offset_bounds-out-start : goal.offset_bounds-out-start
-offset_bounds-out-start c = omega (arith, row (goal.at.offset_bounds-out-start c).In-loop-i)
-
-pub slice_bounds-add_multiple-end-in-loop-i : goal.slice_bounds-add_multiple-end-in-loop-i
-slice_bounds-add_multiple-end-in-loop-i c = omega (arith, row (goal.at.slice_bounds-add_multiple-end-in-loop-i c).In-loop-i)
 
 -- what stands at number i of y is read
 read : (c : After-add_multiple-arg-1) →
@@ -75,7 +64,7 @@ lent c =
 long : (c : In-loop-i) → length (lent c) ≡ c.loop-i.i + 1
 long c =
     let l = c.loop-i in
-    lower-lent c.args.n (after (goal.at.In-loop-i c).Start) l.i l.start l.out c.loop-i-test.true l.invariant.rows
+    lower-lent c.args.n (after (goal.at.In-loop-i c).Start) l.i l.start l.out (below c) l.invariant.rows
 
 pub add_multiple-requires : goal.add_multiple-requires
 add_multiple-requires c =
@@ -84,14 +73,11 @@ add_multiple-requires c =
     let l = t.loop-i in
     let s = (goal.at.add_multiple-requires c).Start in
     let a = s.args in
-    let h = t.loop-i-test.true in record {
+    let h = (below t) in record {
       y_len = front t ∙ sym (long t);
       row_room = front-room a.y.now l.i _ (read r) _ (long t) (lent t) refl
           (λ j b. rw (lower-row-at a.n (added s) a.out.now l.i l.start l.out h l.invariant j b) (s.requires.room l.i j h (omega (arith, h, b))));
     }
-
-pub loop-i-smaller : goal.loop-i-smaller
-loop-i-smaller c = omega arith
 
 pub loop-i-preserved : goal.loop-i-preserved
 loop-i-preserved c =
@@ -101,7 +87,7 @@ loop-i-preserved c =
     let s = (goal.at.loop-i-preserved c).Start in
     let a = s.args in
     let back = c.add_multiple in
-    lower-added-row a.n (added s) a.out.now l.i l.start l.out t.loop-i-test.true l.invariant back.new.row
+    lower-added-row a.n (added s) a.out.now l.i l.start l.out (below t) l.invariant back.new.row
     (front-added a.y.now l.i _ (read r) _ (long t) (lent t) refl back.new.row back.auto.row back.ensures)
 
 pub shape_of-out : goal.shape_of-out

@@ -1,6 +1,6 @@
 -- `cross_products::add_products` meets its contract: the products are added to the first i rows.
 use mathlib.Core.Path.{◌≡◌, sym, ◌∙◌}
-use Prim.Native.Nat.{◌+◌, ◌*◌, ◌≤◌}
+use Prim.Native.Nat.{◌<◌, ◌+◌, ◌*◌, ◌≤◌}
 use native.Mathlib.Omega.{arith}
 use lib.IntN.{pos}
 use lib.ListN.{length, get_or}
@@ -16,32 +16,18 @@ use Rattle.cross_products.proofs.add_products.Goals.{After-add_multiple-arg-1, A
 pub loop-i-init : goal.loop-i-init
 loop-i-init c = (omega arith, rows_none c.args.cols (outer c.args.x.now c.args.y.now) c.args.out.now)
 
+-- a turn's number is one of them
+below : (c : In-loop-i) → c.loop-i.i < c.args.rows
+below c = omega (arith, c.loop-i-test.true, c.requires.x_len.0)
+
 -- row i lies within `out`
 row : (c : In-loop-i) →
     let a = c.args in
     c.loop-i.i * a.cols + a.cols ≤ a.rows * a.cols
-row c = let a = c.args in row_within a.rows a.cols c.loop-i.i c.loop-i-test.true
+row c = let a = c.args in row_within a.rows a.cols c.loop-i.i (below c)
 
 size : (c : At-loop-i) → length c.loop-i.out ≡ c.args.rows * c.args.cols
 size c = c.loop-i.invariant.1.long ∙ c.requires.x_len.2
-
-pub overflow_mul-start : goal.overflow_mul-start
-overflow_mul-start c = omega (arith, row c)
-
-pub overflow_add-end : goal.overflow_add-end
-overflow_add-end c = omega (arith, row c)
-
-pub offset_bounds-out-start : goal.offset_bounds-out-start
-offset_bounds-out-start c = omega (arith, row (goal.at.offset_bounds-out-start c).In-loop-i)
-
-pub slice_bounds-add_multiple-count : goal.slice_bounds-add_multiple-count
-slice_bounds-add_multiple-count c = omega arith
-
-pub slice_bounds-add_multiple-start : goal.slice_bounds-add_multiple-start
-slice_bounds-add_multiple-start c = omega (arith, row (goal.at.slice_bounds-add_multiple-start c).In-loop-i)
-
-pub slice_bounds-add_multiple-end : goal.slice_bounds-add_multiple-end
-slice_bounds-add_multiple-end c = omega (arith, row (goal.at.slice_bounds-add_multiple-end c).In-loop-i, size (goal.at.slice_bounds-add_multiple-end c).At-loop-i)
 
 -- what stands at number i of x is read
 read : (c : After-add_multiple-arg-1) →
@@ -57,7 +43,7 @@ add_multiple-requires c =
     let l = (goal.at.add_multiple-requires c).At-loop-i in
     let s = c in
     let a = s.args in
-    let h = c.loop-i-test.true in record {
+    let h = below (goal.at.add_multiple-requires c).In-loop-i in record {
       y_len = s.requires.x_len.1 ∙ sym (row-long a.rows a.cols l.loop-i.i l.loop-i.out (size l) h);
       row_room = multiple_room a.rows a.cols a.x.now a.y.now a.out.now l.loop-i.i l.loop-i.out _ h (size l)
           (read (goal.at.add_multiple-requires c).After-add_multiple-arg-1) l.loop-i.invariant.1 s.requires.room;
@@ -71,7 +57,7 @@ loop-i-preserved c =
     let r = c.add_multiple in (
       omega arith,
       multiple_more a.rows a.cols a.x.now a.y.now a.out.now l.loop-i.i l.loop-i.out _
-          t.loop-i-test.true (size l)
+          (below t) (size l)
           (read (goal.at.loop-i-preserved c).After-add_multiple-arg-1) l.loop-i.invariant.1 r.new.row r.auto.row r.ensures,
     )
 

@@ -41,18 +41,6 @@ start c = (goal.at.At-loop-k c).Start
 row : (c : In-loop-k) → let a = (start (goal.at.In-loop-k c).At-loop-k).args in c.loop-k.k * a.cols + a.cols ≤ a.m * a.cols
 row c = let a = (start (goal.at.In-loop-k c).At-loop-k).args in row_within a.m a.cols c.loop-k.k c.loop-k-test.true
 
-pub overflow_mul-from : goal.overflow_mul-from
-overflow_mul-from c = omega (arith, row c)
-
-pub overflow_add-to : goal.overflow_add-to
-overflow_add-to c = omega (arith, row c)
-
-pub offset_bounds-s-from : goal.offset_bounds-s-from
-offset_bounds-s-from c = omega (arith, row c)
-
-pub slice_bounds-add_lower-end : goal.slice_bounds-add_lower-end
-slice_bounds-add_lower-end c = omega (arith, row c)
-
 -- `out` is a triangle of `cols` rows
 long : (c : At-loop-k) → length c.loop-k.out ≡ triangular (start c).args.cols
 long c =

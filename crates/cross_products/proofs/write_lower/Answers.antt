@@ -1,7 +1,7 @@
 -- `cross_products::write_lower` meets its contract: the first i rows of the triangle are written.
 use mathlib.Core.Path.{◌≡◌, sym, ◌∙◌}
 use mathlib.Core.List.{List}
-use Prim.Native.Nat.{◌+◌, ◌-◌, ◌≤◌}
+use Prim.Native.Nat.{◌<◌, ◌+◌, ◌-◌, ◌≤◌}
 use native.Mathlib.Omega.{arith}
 use lib.IntN.{ℤ, pos}
 use lib.ListN.{length, get_or, take, drop}
@@ -22,35 +22,24 @@ written c = outer c.args.y.now c.args.y.now
 pub loop-i-init : goal.loop-i-init
 loop-i-init c = lower-none c.args.n (written c) c.args.out.now c.requires.y_len.1
 
+-- a turn's number is one of them
+below : (c : In-loop-i) → c.loop-i.i < c.args.n
+below c = omega (arith, c.loop-i-test.true, c.requires.y_len.0)
+
 -- row i lies within `out`
 row : (c : In-loop-i) → let l = c.loop-i in l.start + l.i + 1 ≤ length l.out
 row c =
     let l = c.loop-i in
-    lower-within c.args.n (written (goal.at.In-loop-i c).Start) l.i l.start l.out c.loop-i-test.true l.invariant
-
-pub overflow_add-end : goal.overflow_add-end
-overflow_add-end c = omega (arith, row c)
-
-pub overflow_add-end-in-loop-i : goal.overflow_add-end-in-loop-i
-overflow_add-end-in-loop-i c = omega (arith, row c)
-
-pub bounds-y-i : goal.bounds-y-i
-bounds-y-i c = omega (arith, c.requires.y_len.0)
+    lower-within c.args.n (written (goal.at.In-loop-i c).Start) l.i l.start l.out (below c) l.invariant
 
 -- the numbers of y up to number i, when they are lent
 front : (c : In-loop-i) → length (take (c.loop-i.i + 1) c.args.y.now) ≡ c.loop-i.i + 1
 front c =
     let s = c in
-    front_long s.args.y.now c.loop-i.i (omega (arith, c.loop-i-test.true, s.requires.y_len.0))
+    front_long s.args.y.now c.loop-i.i (omega (arith, (below c), s.requires.y_len.0))
 
 pub slice_bounds-write_multiple-end : goal.slice_bounds-write_multiple-end
 slice_bounds-write_multiple-end c = sym (front (goal.at.slice_bounds-write_multiple-end c).In-loop-i)
-
-pub offset_bounds-out-start : goal.offset_bounds-out-start
-offset_bounds-out-start c = omega (arith, row (goal.at.offset_bounds-out-start c).In-loop-i)
-
-pub slice_bounds-write_multiple-end-in-loop-i : goal.slice_bounds-write_multiple-end-in-loop-i
-slice_bounds-write_multiple-end-in-loop-i c = omega (arith, row (goal.at.slice_bounds-write_multiple-end-in-loop-i c).In-loop-i)
 
 -- what stands at number i of y is read
 read : (c : After-write_multiple-arg-1) →
@@ -70,7 +59,7 @@ lent c =
 long : (c : In-loop-i) → length (lent c) ≡ c.loop-i.i + 1
 long c =
     let l = c.loop-i in
-    lower-lent c.args.n (written (goal.at.In-loop-i c).Start) l.i l.start l.out c.loop-i-test.true l.invariant
+    lower-lent c.args.n (written (goal.at.In-loop-i c).Start) l.i l.start l.out (below c) l.invariant
 
 pub write_multiple-requires : goal.write_multiple-requires
 write_multiple-requires c =
@@ -80,11 +69,8 @@ write_multiple-requires c =
     let s = (goal.at.write_multiple-requires c).Start in
     let y = s.args.y.now in record {
       y_len = front t ∙ sym (long t);
-      small = front-small y l.i _ (read r) _ (long t) s.args.n t.loop-i-test.true (s.requires.by_index l.i t.loop-i-test.true);
+      small = front-small y l.i _ (read r) _ (long t) s.args.n (below t) (s.requires.by_index l.i (below t));
     }
-
-pub loop-i-smaller : goal.loop-i-smaller
-loop-i-smaller c = omega arith
 
 pub loop-i-preserved : goal.loop-i-preserved
 loop-i-preserved c =
@@ -92,7 +78,7 @@ loop-i-preserved c =
     let t = (goal.at.loop-i-preserved c).In-loop-i in
     let l = t.loop-i in
     let s = (goal.at.loop-i-preserved c).Start in
-    lower-part s.args.n (written s) l.i l.start l.out t.loop-i-test.true l.invariant _
+    lower-part s.args.n (written s) l.i l.start l.out (below t) l.invariant _
     (front-written s.args.y.now l.i _ (read r) _ (long t) _ c.write_multiple.ensures)
 
 pub shape_of-out : goal.shape_of-out

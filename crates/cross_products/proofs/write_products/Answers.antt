@@ -1,6 +1,6 @@
 -- `cross_products::write_products` meets its contract: the first i rows of `out` are written.
 use mathlib.Core.Path.{◌≡◌, sym, ◌∙◌, ap}
-use Prim.Native.Nat.{ℕ, ◌+◌, ◌-◌, ◌*◌, ◌≤◌}
+use Prim.Native.Nat.{ℕ, ◌<◌, ◌+◌, ◌-◌, ◌*◌, ◌≤◌}
 use native.Mathlib.Omega.{arith}
 use native.Mathlib.Nat.{zero-mul}
 use lib.IntN.{ℤ, pos, ◌*ℤ◌}
@@ -22,29 +22,15 @@ written c = outer c.args.x.now c.args.y.now
 pub loop-i-init : goal.loop-i-init
 loop-i-init c = table_none _ _ _ (written c) _ _ (zero-mul c.args.cols) c.requires.x_len.2
 
+-- a turn's number is one of them
+below : (c : In-loop-i) → c.loop-i.i < c.args.rows
+below c = omega (arith, c.loop-i-test.true, c.requires.x_len.0)
+
 -- row i lies within `out`
 row : (c : In-loop-i) →
     let a = c.args in
     c.loop-i.i * a.cols + a.cols ≤ a.rows * a.cols
-row c = let a = c.args in row_within a.rows a.cols c.loop-i.i c.loop-i-test.true
-
-pub overflow_mul-start : goal.overflow_mul-start
-overflow_mul-start c = omega (arith, row c)
-
-pub overflow_add-end : goal.overflow_add-end
-overflow_add-end c = omega (arith, row c)
-
-pub offset_bounds-out-start : goal.offset_bounds-out-start
-offset_bounds-out-start c = omega (arith, row (goal.at.offset_bounds-out-start c).In-loop-i)
-
-pub slice_bounds-write_multiple-count : goal.slice_bounds-write_multiple-count
-slice_bounds-write_multiple-count c = omega arith
-
-pub slice_bounds-write_multiple-start : goal.slice_bounds-write_multiple-start
-slice_bounds-write_multiple-start c = omega (arith, row (goal.at.slice_bounds-write_multiple-start c).In-loop-i)
-
-pub slice_bounds-write_multiple-end : goal.slice_bounds-write_multiple-end
-slice_bounds-write_multiple-end c = omega (arith, row (goal.at.slice_bounds-write_multiple-end c).In-loop-i, c.loop-i.invariant.long)
+row c = let a = c.args in row_within a.rows a.cols c.loop-i.i (below c)
 
 -- what stands at number i of x is read
 read : (c : After-write_multiple-arg-1) →
@@ -63,7 +49,7 @@ long : (c : In-loop-i) →
 long c =
     let a = c.args in
     let l = c.loop-i in
-    row-long a.rows a.cols l.i l.out l.invariant.long c.loop-i-test.true
+    row-long a.rows a.cols l.i l.out l.invariant.long (below c)
 
 pub write_multiple-requires : goal.write_multiple-requires
 write_multiple-requires c =
@@ -71,7 +57,7 @@ write_multiple-requires c =
     let l = c in
     let s = c in record {
       y_len = s.requires.x_len.1 ∙ sym (long t);
-      small = λ j h. rw (read (goal.at.write_multiple-requires c).After-write_multiple-arg-1) (s.requires.by_index l.loop-i.i t.loop-i-test.true j (omega (arith, long t)));
+      small = λ j h. rw (read (goal.at.write_multiple-requires c).After-write_multiple-arg-1) (s.requires.by_index l.loop-i.i (below t) j (omega (arith, long t)));
     }
 
 pub loop-i-preserved : goal.loop-i-preserved
@@ -82,7 +68,7 @@ loop-i-preserved c =
     let r = c.write_multiple in
     let f : ℕ → ℤ = λ j. to_z w64 (of_z w64 (get_or a.x.now l.loop-i.i (pos 0))) *ℤ get_or a.y.now j (pos 0) in
     table-part-of (pos 0) a.rows a.cols (written (goal.at.loop-i-preserved c).Start) l.loop-i.out l.loop-i.i r.new.row f
-    t.loop-i-test.true (r.ensures ∙ ap (λ (n : ℕ). build n f) (long t))
+    (below t) (r.ensures ∙ ap (λ (n : ℕ). build n f) (long t))
     (λ j h. ap (λ (z : ℤ). z *ℤ get_or a.y.now j (pos 0)) (read (goal.at.loop-i-preserved c).After-write_multiple-arg-1)) l.loop-i.invariant
 
 pub returns : goal.returns

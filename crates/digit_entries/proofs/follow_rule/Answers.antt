@@ -1,19 +1,22 @@
 -- `digit_entries::follow_rule` meets its contract: none of the first q digits is the one that the rule never gives.
-use borrow.Author.Rules.{rules}
+use Rattle.std.specs.List.{IsAnyAnswer}
+use Rattle.std.specs.Ordering.{int_eq}
+use Rattle.std.proofs.lemmas.Bool.Decides.{Decides-int_eq}
 use mathlib.Core.Path.{◌≡◌, sym, ◌∙◌, ap}
-use mathlib.Core.Logic.{⊎_elim}
-use Prim.Native.Nat.{◌/◌, ◌<◌}
+use mathlib.Core.Logic.{◌≢◌}
+use mathlib.Core.Bool.{Bool, true, false, not, true≢false}
+use mathlib.Core.List.{List}
+use Prim.Native.Nat.{ℕ, ◌/◌, ◌%◌, ◌≤◌}
 use native.Mathlib.Omega.{arith}
-use native.Mathlib.Nat.{eq-or-lt_of_le}
 use lib.IntN.{ℤ, pos, neg_ℤ, ◌-ℤ◌, +ℤ_idl}
 use lib.ListN.{get_or}
 use lib.Signed.{lt_z}
 use mir.Syntax.{w64}
-use mir.Val.{Fits, to_z, of_z}
-use mir.ValLaws.{to_z-of_z, of_z-to_z}
+use mir.Val.{to_z, of_z}
+use mir.ValLaws.{to_z-of_z}
 use Rattle.integers.proofs.Sizes.{nat_abs_negate}
 use Rattle.integers.proofs.Words.{read_back, Held, held}
-use Rattle.digit_entries.specs.Entries.{entry_of, limit}
+use Rattle.digit_entries.specs.Entries.{Digits, entry_of, limit, follow_rule}
 use Rattle.digit_entries.proofs.Clamped.{clamped-sign}
 use Rattle.digit_entries.proofs.Ties.{never_of, never-below, never-above, odd_follow, even_follow, never_follow}
 use Rattle.digit_entries.proofs.follow_rule.Goals as goal
@@ -50,41 +53,15 @@ never-is c =
       | else-x-lt0 w ↦ w.never-is ∙ (negated-half s).read ∙ sym (never-above s.args.b e (sym (sign_read s) ∙ w.if-x-lt0.false))
     ]
 
--- it is held in a word's bits
-never-fits : (c : Joined-x-lt0) → Fits w64 c.if-x-lt0.never-bits
-never-fits c =
-    elim c.if-x-lt0.branch [
-      | then-x-lt0 w ↦ search rules
-      | else-x-lt0 w ↦ search rules
-    ]
-
-pub loop-q-init : goal.loop-q-init
-loop-q-init c = (omega arith, λ i h e. omega arith)
-
-pub returns-then-digits-q : goal.returns-then-digits-q
-returns-then-digits-q c =
-    let l = c in
-    let s = c in
-    let b = s.args.b in
-    let d = get_or s.args.digits.now l.loop-q.q (pos 0) in
-    let never = never_of b (entry_of b s.args.digits.now) in
-    let is : d ≡ never =
-    sym (read_back w64 d (omega (arith, s.requires.2 l.loop-q.q))) ∙ ap (to_z w64) c.if-digits-q.true ∙ never-is (goal.at.returns-then-digits-q c).Joined-x-lt0 in
-    never_follow b s.requires.0 s.args.digits.now s.requires.2 l.if-b-eq1.false l.loop-q.q (omega arith) is
-
-pub loop-q-preserved : goal.loop-q-preserved
-loop-q-preserved c =
-    let l = c in (
-      omega arith,
-      λ i h e. ⊎_elim
-          (λ (same : i ≡ l.loop-q.q). c.if-digits-q.false (ap (of_z w64) (rw same at e) ∙ of_z-to_z w64 _ (never-fits (goal.at.loop-q-preserved c).Joined-x-lt0)))
-          (λ (less : i < l.loop-q.q). l.loop-q.invariant.1 i less e)
-          (eq-or-lt_of_le (omega arith)),
-    )
+-- the answer to whether some digit is that one
+not-among : (b : ℕ) (base : 2 ≤ b) (ds : List ℤ) (small : Digits b ds) (even : b % 2 ≢ 1) (t : ℤ) (never : t ≡ never_of b (entry_of b ds)) (some : Bool)
+    → IsAnyAnswer (λ d c. int_eq d t ≡ c) ds some → not some ≡ follow_rule b ds
+not-among b base ds small even t never true (q, within, found) =
+    never_follow b base ds small even q within ((Decides-int_eq (get_or ds q (pos 0)) t).0 (found (pos 0)) ∙ never)
+not-among b base ds small even t never false none =
+    even_follow b base ds small (λ q h e. true≢false (sym ((Decides-int_eq (get_or ds q (pos 0)) t).1 (e ∙ sym never)) ∙ none q (pos 0) (omega arith) h))
 
 pub returns : goal.returns
 returns c =
-    let l = c in
-    let s = c in
-    even_follow s.args.b s.requires.0 s.args.digits.now s.requires.2
-    (λ q h e. l.loop-q.invariant.1 q (omega arith) (e ∙ sym (never-is (goal.at.returns c).Joined-x-lt0)))
+    let a = c.args in
+    not-among a.b c.requires.0 a.digits.now c.requires.2 c.if-b-eq1.false _ (never-is (goal.at.returns c).Joined-x-lt0) c.contains.result c.contains.ensures.cases

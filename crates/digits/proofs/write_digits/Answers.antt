@@ -19,7 +19,7 @@ use Rattle.digits.proofs.Signs.{sign-size, sign-times}
 use Rattle.digits.proofs.Steps.{step-size}
 use Rattle.digits.proofs.Digits.{rest-none, rest_more, rest-less, digit_by-sign, digit_bound}
 use Rattle.digits.proofs.write_digits.Goals as goal
-use Rattle.digits.proofs.write_digits.Goals.{After-sign_of-sign, After-struct_told-1}
+use Rattle.digits.proofs.write_digits.Goals.{After-sign_of-sign, After-take_digit-s}
 
 -- the machine's products by the sign r of x
 module _ (b : ℕ) (low : 2 ≤ b) (high : b < 2 ^ 16) (x r : ℤ) (fits : SFits w64 x) (reach : InReach b (nat_abs x)) (is : r ≡ sign_of (to_z w64 (of_z w64 x))) where
@@ -61,8 +61,8 @@ overflow_mul-w c = (size c).fits
 pub overflow_cast-w : goal.overflow_cast-w
 overflow_cast-w c = rw (size c).read (tt, omega (arith, mul-le-mul_left (nat_abs c.args.x) c.requires.0.low))
 
-pub loop-p-init : goal.loop-p-init
-loop-p-init c =
+pub loop-digit-init : goal.loop-digit-init
+loop-digit-init c =
     let s = c.before in (
       ap nat_abs ((size c).read ∙ ap (λ (z : ℤ). pos (nat_abs z)) (sym (to_z-of_z w64 s.args.x s.ranges.x))) ∙ sym (rest-none s.args.base.b _),
       filled_none _ _ _ _ refl,
@@ -74,48 +74,30 @@ take_digit-s-requires c =
     let g = l.before in
     let s = g.before in
     let base = s.requires.0 in
-    (base, rest-reach s.args.base.b base.low base.high s.args.x g.sign_of-sign.result s.ranges.x s.requires.1 g.sign_of-sign.ensures l.loop-p.p l.loop-p.w l.loop-p.invariant.0)
+    (base, rest-reach s.args.base.b base.low base.high s.args.x g.sign_of-sign.result s.ranges.x s.requires.1 g.sign_of-sign.ensures l.loop-digit.digit-index l.loop-digit.w l.loop-digit.invariant.0)
 
 -- the machine's sign times the digit, which is digit p of the entry
-digit : (c : After-struct_told-1) →
-    let l = c.before.before.before.before in
-    let a = l.args in
-    Held w64 (to_z w64 (of_z w64 l.sign_of-sign.result) *ℤ to_z w64 (of_z w64 c.take_digit-s.result.digit)) (digit_of a.base.b (to_z w64 (of_z w64 a.x)) l.loop-p.p)
+digit : (c : After-take_digit-s) →
+    Held w64 (to_z w64 (of_z w64 c.sign_of-sign.result) *ℤ to_z w64 (of_z w64 c.take_digit-s.result.digit)) (digit_of c.args.base.b (to_z w64 (of_z w64 c.args.x)) c.loop-digit.digit-index)
 digit c =
-    let t = c.before.before in
-    let l = t.before.before in
-    let g = l.before in
-    let s = g.before in
-    let base = s.requires.0 in
-    digit-held s.args.base.b base.low base.high s.args.x g.sign_of-sign.result s.ranges.x s.requires.1 g.sign_of-sign.ensures l.loop-p.p l.loop-p.w l.loop-p.invariant.0 t.take_digit-s.result t.take_digit-s.ensures
+    let base = c.requires.0 in
+    digit-held c.args.base.b base.low base.high c.args.x c.sign_of-sign.result c.ranges.x c.requires.1 c.sign_of-sign.ensures c.loop-digit.digit-index c.loop-digit.w c.loop-digit.invariant.0
+    c.take_digit-s.result c.take_digit-s.ensures
 
-pub overflow_mul-out : goal.overflow_mul-out
-overflow_mul-out c = (digit c).fits
+pub overflow_mul-digit : goal.overflow_mul-digit
+overflow_mul-digit c = (digit (goal.at.overflow_mul-digit c).After-take_digit-s).fits
 
-pub offset_bounds-out-p : goal.offset_bounds-out-p
-offset_bounds-out-p c = omega arith
-
-pub bounds-out-p : goal.bounds-out-p
-bounds-out-p c = omega arith
-
-pub overflow_add-p : goal.overflow_add-p
-overflow_add-p c = omega arith
-
-pub loop-p-smaller : goal.loop-p-smaller
-loop-p-smaller c = omega arith
-
-pub loop-p-preserved : goal.loop-p-preserved
-loop-p-preserved c =
-    let t = c.before.before in
-    let l = t.loop-p in
-    let b = t.args.base.b in (
-      ap (λ (s : Step). s.rest) t.take_digit-s.ensures ∙ ap (λ (n : ℕ). (step_of b n).rest) l.invariant.0 ∙ sym (rest_more b l.p _),
-      filled_more _ _ _ l.p l.out _ (omega arith) (digit c).read l.invariant.1,
+pub loop-digit-preserved : goal.loop-digit-preserved
+loop-digit-preserved c =
+    let l = c.loop-digit in
+    let b = c.args.base.b in (
+      ap (λ (s : Step). s.rest) c.take_digit-s.ensures ∙ ap (λ (n : ℕ). (step_of b n).rest) l.invariant.0 ∙ sym (rest_more b l.digit-index _),
+      filled_more _ _ _ l.digit-index l.out _ (omega arith) (digit (goal.at.loop-digit-preserved c).After-take_digit-s).read l.invariant.1,
     )
 
 pub returns : goal.returns
 returns c =
     let s = c.before.before.before in
-    let l = c.loop-p in
-    filled-all _ _ _ l.p l.out (omega arith) l.invariant.1
+    let l = c.loop-digit in
+    filled-all _ _ _ l.digit-index l.out (omega arith) l.invariant.1
     ∙ ap (λ (z : ℤ). digits_of s.args.base.b (length s.args.out.now) z) (to_z-of_z w64 s.args.x s.ranges.x)

@@ -18,26 +18,8 @@ loop-j-init c =
     let a = c.args in
     (omega arith, rw (zero-mul a.k) (filled_none (length a.s.now * a.k) (digit_at a.base.b a.k a.s.now) (pos 0) a.row.now c.requires.row_len))
 
-pub overflow_mul-start : goal.overflow_mul-start
-overflow_mul-start c = omega arith
-
 pub overflow_add-end : goal.overflow_add-end
 overflow_add-end c = omega (arith, block-end c.loop-j.j _ c.args.k c.loop-j-test.true)
-
-pub offset_bounds-s-j : goal.offset_bounds-s-j
-offset_bounds-s-j c = omega arith
-
-pub bounds-s-j : goal.bounds-s-j
-bounds-s-j c = omega arith
-
-pub offset_bounds-row-start : goal.offset_bounds-row-start
-offset_bounds-row-start c = omega arith
-
-pub slice_bounds-write_digits-count : goal.slice_bounds-write_digits-count
-slice_bounds-write_digits-count c = omega arith
-
-pub slice_bounds-write_digits-start : goal.slice_bounds-write_digits-start
-slice_bounds-write_digits-start c = omega arith
 
 pub slice_bounds-write_digits-end : goal.slice_bounds-write_digits-end
 slice_bounds-write_digits-end c = omega (arith, block-end c.loop-j.j _ c.args.k c.loop-j-test.true)
@@ -48,12 +30,6 @@ write_digits-requires c =
     let s = l.before in
     let z = get_or s.args.s.now l.loop-j.j (pos 0) in
     (s.requires.base.0, subst (λ (y : ℤ). InReach s.args.base.b (nat_abs y)) (sym (to_z-of_z w64 z (record { sfits = c.write_digits-arg-1.given }))) (s.requires.base.1 l.loop-j.j))
-
-pub overflow_add-j : goal.overflow_add-j
-overflow_add-j c = omega arith
-
-pub loop-j-smaller : goal.loop-j-smaller
-loop-j-smaller c = omega arith
 
 pub loop-j-preserved : goal.loop-j-preserved
 loop-j-preserved c =

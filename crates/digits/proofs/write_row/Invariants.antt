@@ -1,5 +1,5 @@
 -- `digits::write_row` meets its contract: after j turns the blocks of the first j entries are written.
-use Prim.Native.Nat.{◌*◌, ◌-◌, ◌≤◌}
+use Prim.Native.Nat.{◌*◌, ◌≤◌}
 use lib.IntN.{pos}
 use lib.ListN.{length}
 use Rattle.integers.proofs.Lists.{Filled}
@@ -8,6 +8,3 @@ use Rattle.digits.proofs.write_row.Given as goal
 
 abbrev pub invariant-loop-j : goal.invariant-loop-j
 invariant-loop-j l = (l.j ≤ length l.s) × Filled (length l.s * l.k) (digit_at l.base.b l.k l.s) (pos 0) (l.j * l.k) l.row
-
-abbrev pub decreases-loop-j : goal.decreases-loop-j
-decreases-loop-j l = length l.s - l.j

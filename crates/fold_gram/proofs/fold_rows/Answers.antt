@@ -46,18 +46,6 @@ row c = row_within c.args.t c.args.t c.loop-i.i c.loop-i-test.true
 next : (c : In-loop-i) → end c ≡ (c.loop-i.i + 1) * c.args.t
 next c = omega (arith, add-mul c.loop-i.i 1 c.args.t, one-mul c.args.t)
 
-pub overflow_mul-from : goal.overflow_mul-from
-overflow_mul-from c = omega (arith, row (turn (goal.at.overflow_mul-from c).After-left_row))
-
-pub overflow_add-to : goal.overflow_add-to
-overflow_add-to c = omega (arith, row (turn (goal.at.overflow_add-to c).After-left_row))
-
-pub offset_bounds-out-from : goal.offset_bounds-out-from
-offset_bounds-out-from c = omega (arith, row (turn (goal.at.offset_bounds-out-from c).After-left_row))
-
-pub slice_bounds-fold_row-end : goal.slice_bounds-fold_row-end
-slice_bounds-fold_row-end c = let t = turn (goal.at.slice_bounds-fold_row-end c).After-left_row in omega (arith, row t, t.loop-i.invariant.2.long)
-
 pub fold_row-requires : goal.fold_row-requires
 fold_row-requires c =
     let e = (goal.at.fold_row-requires c).After-left_row in
@@ -97,12 +85,6 @@ ends c = let w = written c in omega (arith, next (turn (before c)), w.within, w.
 kept : (c : After-fold_row) → end (turn (before c)) ≡ length (take (end (turn (before c))) (rows c))
 kept c = sym (length-take-le (end (turn (before c))) (rows c) (ends c))
 
-pub slice_bounds-settle-end : goal.slice_bounds-settle-end
-slice_bounds-settle-end c = ends (goal.at.slice_bounds-settle-end c).After-fold_row
-
-pub slice_bounds-settle-end-in-loop-i : goal.slice_bounds-settle-end-in-loop-i
-slice_bounds-settle-end-in-loop-i c = kept (goal.at.slice_bounds-settle-end-in-loop-i c).After-fold_row
-
 pub settle-requires : goal.settle-requires
 settle-requires c =
     let f = (goal.at.settle-requires c).After-fold_row in
@@ -114,12 +96,6 @@ settle-requires c =
       front-size a.n (by_columns a.q.now) a.d.now a.t t.loop-i.i (end t) t.loop-i-test.true (next t) (rows f) (written f) s.requires.2 s.requires.1 (λ k j. s.requires.3 (j * 512 + k)),
     )
 
-pub overflow_add-i : goal.overflow_add-i
-overflow_add-i c = omega (arith, (turn (before (goal.at.overflow_add-i c).After-fold_row)).loop-i-test.true)
-
-pub loop-i-smaller : goal.loop-i-smaller
-loop-i-smaller c = omega (arith, (turn (before (goal.at.loop-i-smaller c).After-fold_row)).loop-i-test.true)
-
 pub loop-i-preserved : goal.loop-i-preserved
 loop-i-preserved c =
     let f = (goal.at.loop-i-preserved c).After-fold_row in
@@ -129,12 +105,6 @@ loop-i-preserved c =
       (summed (before f)).long,
       front-next a.n (by_columns a.q.now) a.d.now a.t t.loop-i.i (end t) t.loop-i-test.true (next t) (rows f) (written f) _ c.settle.ensures,
     )
-
-pub shape_of-e : goal.shape_of-e
-shape_of-e c = c.loop-i.invariant.1 ∙ sym c.requires.5
-
-pub shape_of-out : goal.shape_of-out
-shape_of-out c = c.loop-i.invariant.2.long ∙ sym c.requires.6
 
 pub returns : goal.returns
 returns c =

@@ -1,6 +1,6 @@
 -- `fold_gram::fold_rows` meets its contract: the first i rows are written, and settled in the first i columns.
 use mathlib.Core.Path.{◌≡◌}
-use Prim.Native.Nat.{◌-◌, ◌*◌, ◌≤◌}
+use Prim.Native.Nat.{◌*◌, ◌≤◌}
 use lib.IntN.{pos}
 use lib.ListN.{length}
 use Rattle.matrices.proofs.Tables.{TableTo}
@@ -10,6 +10,3 @@ use Rattle.fold_gram.proofs.fold_rows.Given as goal
 
 abbrev pub invariant-loop-i : goal.invariant-loop-i
 invariant-loop-i l = (l.i ≤ l.t) × (length l.e ≡ l.n) × TableTo (pos 0) l.t l.t (made l.n (by_columns l.q) l.d l.i) l.out (l.i * l.t)
-
-abbrev pub decreases-loop-i : goal.decreases-loop-i
-decreases-loop-i l = l.t - l.i

@@ -4,7 +4,7 @@ use Prim.Native.Nat.{◌+◌, ◌*◌, ◌^◌, ◌<◌, ◌≤◌}
 use native.Mathlib.Omega.{arith}
 use lib.Arith.{digits_lt}
 use lib.IntN.{pos, nat_abs, ◌+ℤ◌}
-use lib.ListN.{length, length-set}
+use lib.ListN.{length}
 use lib.Signed.{quot_z}
 use mir.Syntax.{w64}
 use mir.Val.{to_z, of_z}
@@ -13,12 +13,9 @@ use Rattle.integers.proofs.Words.{Held, read_back, plus}
 use Rattle.matrices.specs.Tables.{signed}
 use Rattle.fold_gram.specs.Halves.{mean}
 use Rattle.fold_gram.proofs.Factors.{halved}
-use Rattle.fold_gram.proofs.Settling.{settled-none, settled-more, settled-all}
+use Rattle.fold_gram.proofs.Settling.{settled-more, settled-all}
 use Rattle.fold_gram.proofs.settle.Goals as goal
 use Rattle.fold_gram.proofs.settle.Goals.{In-loop-j}
-
-pub loop-j-init : goal.loop-j-init
-loop-j-init c = settled-none c.args.t c.args.i c.args.out.now
 
 -- the two places of a pair
 places : (c : In-loop-j) →
@@ -33,30 +30,6 @@ places c =
       omega (arith, h, digits_lt {q = a.i} {m = a.i + 1} {r = j} {c = a.t} (omega arith) (omega (arith, s.requires.0, c.loop-j-test.true))),
       omega (arith, h, digits_lt {q = j} {m = a.i + 1} {r = a.i} {c = a.t} (omega (arith, c.loop-j-test.true)) s.requires.0),
     )
-
-pub overflow_mul-low : goal.overflow_mul-low
-overflow_mul-low c = omega (arith, places c)
-
-pub overflow_add-low : goal.overflow_add-low
-overflow_add-low c = omega (arith, places c)
-
-pub overflow_mul-high : goal.overflow_mul-high
-overflow_mul-high c = omega (arith, places c)
-
-pub overflow_add-high : goal.overflow_add-high
-overflow_add-high c = omega (arith, places c)
-
-pub offset_bounds-out-low : goal.offset_bounds-out-low
-offset_bounds-out-low c = omega (arith, places c)
-
-pub slice_copy_out-x : goal.slice_copy_out-x
-slice_copy_out-x c = omega (arith, places c)
-
-pub offset_bounds-out-high : goal.offset_bounds-out-high
-offset_bounds-out-high c = omega (arith, places (goal.at.offset_bounds-out-high c).In-loop-j)
-
-pub slice_copy_out-x-in-loop-j : goal.slice_copy_out-x-in-loop-j
-slice_copy_out-x-in-loop-j c = (places (goal.at.slice_copy_out-x-in-loop-j c).In-loop-j).1
 
 -- the two numbers of a pair, as they were and as the machine has their sum and its half
 low : (c : In-loop-j) →
@@ -88,9 +61,6 @@ sum-held c =
     let hy : nat_abs y ≤ 2 ^ 60 = rw (high c) (s.requires.2 (j * a.t + a.i)) in
     plus x y (read_back w64 x (omega arith)) (read_back w64 y (omega arith)) (omega arith) (omega arith)
 
-pub overflow_add-x : goal.overflow_add-x
-overflow_add-x c = (sum-held (goal.at.overflow_add-x c).In-loop-j).fits
-
 mean-held : (c : In-loop-j) →
     let a = c.args in
     let x = signed a.t c.loop-j.out a.i c.loop-j.j in
@@ -105,21 +75,6 @@ mean-held c =
     halved (x +ℤ y) ((sum-held c).read ∙ ap₂ ◌+ℤ◌ (low c) (high c))
     (omega (arith, nat_abs-+ x y, s.requires.2 (a.i * a.t + j), s.requires.2 (j * a.t + a.i)))
 
-pub nonzero_div-x : goal.nonzero_div-x
-nonzero_div-x c = (omega arith, (mean-held (goal.at.nonzero_div-x c).In-loop-j).fits)
-
-pub offset_bounds-out-high-in-loop-j : goal.offset_bounds-out-high-in-loop-j
-offset_bounds-out-high-in-loop-j c = omega (arith, places (goal.at.offset_bounds-out-high-in-loop-j c).In-loop-j)
-
-pub bounds-out-high : goal.bounds-out-high
-bounds-out-high c = (places (goal.at.bounds-out-high c).In-loop-j).1
-
-pub offset_bounds-out-low-in-loop-j : goal.offset_bounds-out-low-in-loop-j
-offset_bounds-out-low-in-loop-j c = omega (arith, places (goal.at.offset_bounds-out-low-in-loop-j c).In-loop-j)
-
-pub bounds-out-low : goal.bounds-out-low
-bounds-out-low c = simp length-set (omega (arith, places (goal.at.bounds-out-low c).In-loop-j))
-
 pub loop-j-preserved : goal.loop-j-preserved
 loop-j-preserved c =
     let t = (goal.at.loop-j-preserved c).In-loop-j in
@@ -131,3 +86,12 @@ pub returns : goal.returns
 returns c =
     let s = c in
     settled-all s.args.t s.args.i s.args.out.now s.requires.1 s.requires.0 c.loop-j.j c.loop-j.out c.loop-j-test.false c.loop-j.invariant
+
+-- and after the last pair
+pub returns-2 : goal.returns-2
+returns-2 c =
+    let t = (goal.at.returns-2 c).In-loop-j in
+    let s = c in
+    let a = s.args in
+    settled-all a.t a.i a.out.now s.requires.1 s.requires.0 (t.loop-j.j + 1) _ (omega arith)
+    (settled-more a.t a.i a.out.now s.requires.1 s.requires.0 t.loop-j.j t.loop-j.out _ (omega arith) (mean-held t).read t.loop-j.invariant)

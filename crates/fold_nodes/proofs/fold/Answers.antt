@@ -1,136 +1,85 @@
 -- `fold_nodes::fold` meets its contract: refused by the calls, or T, D and S copied from what they left.
 use mathlib.Core.Path.{◌≡◌, refl, sym, ◌∙◌, ap}
 use lib.IntN.{pos}
-use Rattle.settings.specs.Settings.{Parameters, parameters_of}
-use Rattle.lova.specs.Answers.{verdict_of, verdict_leaves, ends}
-use Rattle.lova.specs.Stored.{matrix_T, matrix_S, matrix_D}
+use Rattle.std.specs.Prelude.{Ok}
+use Rattle.std.proofs.lemmas.Result.{err_from_is_err_and}
+use Rattle.settings.specs.Accepted.{parameters_in}
+use Rattle.settings.specs.Settings.{Parameters}
+use Rattle.settings.specs.Refusals.{number_of}
+use Rattle.lova.specs.Answers.{Meaning, refused, refusal, refuses, verdict_of, Outcome, ends}
 use Rattle.chain.specs.Nodes.{Node, node_of, blank_node, calls_of}
-use Rattle.copies.proofs.Blanks.{blank, blank-long, Back, back}
+use Rattle.copies.proofs.Blanks.{blank, blank-long}
 use Rattle.chain.proofs.Sizes.{Sizes, sizes}
-use Rattle.chain.proofs.Refusing.{node_same, count-after, count-before, fold-ends, fold-refuses}
+use Rattle.chain.proofs.Refusing.{node_same, count-after, fold-ends, fold-refuses}
+use Rattle.fold_nodes.proofs.Answering.{passes_on}
 use Rattle.fold_nodes.proofs.fold.Goals as goal
-use Rattle.fold_nodes.proofs.fold.Goals.{After-calls-answer, Start}
+use Rattle.fold_nodes.proofs.fold.Goals.{Start}
 
 module _ (s : Start) where
   abbrev p : Parameters
-  p = parameters_of s.args.setting
+  p = parameters_in s.args.accepted.now
 
   abbrev first : Node
   first = node_of s.args.t1.now s.args.d1.now s.args.leaves1 s.args.s1.now
 
   abbrev second : Node
-  second = node_of s.args.t2.now s.args.d2.now s.args.leaves2 s.args.s2.now
+  second = node_of s.args.second.t.now s.args.second.d.now s.args.second.leaves s.args.s2.now
 
   big : Sizes p
   big = sizes p s.requires.setting_value
 
--- the calls: the entry before them, what they left, and their equation
-abbrev start : After-calls-answer → Start
-start c = (goal.at.After-calls-answer c).Start
+  -- the calls with blank outputs
+  abbrev made : Outcome Node
+  made = calls_of p s.args.a.now first second s.args.c.now (blank_node p)
 
-abbrev left : After-calls-answer → Node
-left c = node_of c.calls-answer.new.t c.calls-answer.new.d (verdict_leaves c.calls-answer.result) c.calls-answer.new.s
-
-T_back : (c : After-calls-answer) → Back (matrix_T (p (start c))).size 16 0 (left c).instance.instance.T
-T_back c = back _ 16 0 _ (big (start c)).T-high c.calls-answer.auto.t
-
-D-back : (c : After-calls-answer) → Back (matrix_D (p (start c))).size 4 (pos 0) (left c).instance.instance.D
-D-back c = back _ 4 (pos 0) _ (big (start c)).D-high c.calls-answer.auto.d
-
-S-back : (c : After-calls-answer) → Back (matrix_S (p (start c))).size 32 (pos 0) (left c).witness
-S-back c = back _ 32 (pos 0) _ (big (start c)).S-high c.calls-answer.auto.s
-
-made : (c : After-calls-answer) →
-    let s = start c in
-    ends (verdict_of c.calls-answer.result) (left c) ≡ calls_of (p s) s.args.a.now (first s) (second s) s.args.c.now (blank_node (p s))
-made c =
-    let s = start c in
-    c.calls-answer.ensures
-    ∙ ap (λ (z : Node). calls_of (p s) s.args.a.now (first s) (second s) s.args.c.now z)
-    (node_same _ _ _ _ _ _ _ _ (blank _ 16 0 (big s).T-high) (blank _ 4 (pos 0) (big s).D-high) refl (blank _ 32 (pos 0) (big s).S-high))
+  -- what they find is blank
+  blank-found : (T : _) (D : _) (S : _) → T ≡ (blank_node p).instance.instance.T → D ≡ (blank_node p).instance.instance.D → S ≡ (blank_node p).witness
+      → calls_of p s.args.a.now first second s.args.c.now (node_of T D 0 S) ≡ made
+  blank-found T D S t d w = ap (λ (z : Node). calls_of p s.args.a.now first second s.args.c.now z) (node_same _ _ _ _ _ _ _ _ t d refl w)
 
 pub slice_bounds-t-end : goal.slice_bounds-t-end
 slice_bounds-t-end c = (big (goal.at.slice_bounds-t-end c).Start).T-high
 
-pub slice_bounds-calls-end : goal.slice_bounds-calls-end
-slice_bounds-calls-end c = sym (blank-long _ 16 0 (big (goal.at.slice_bounds-calls-end c).Start).T-high)
+pub slice_bounds-t-end-2 : goal.slice_bounds-t-end-2
+slice_bounds-t-end-2 c = sym (blank-long _ 16 0 (big (goal.at.slice_bounds-t-end-2 c).Start).T-high)
 
 pub slice_bounds-d-end : goal.slice_bounds-d-end
 slice_bounds-d-end c = (big (goal.at.slice_bounds-d-end c).Start).D-high
 
-pub slice_bounds-calls-end-2 : goal.slice_bounds-calls-end-2
-slice_bounds-calls-end-2 c = sym (blank-long _ 4 (pos 0) (big (goal.at.slice_bounds-calls-end-2 c).Start).D-high)
+pub slice_bounds-d-end-2 : goal.slice_bounds-d-end-2
+slice_bounds-d-end-2 c = sym (blank-long _ 4 (pos 0) (big (goal.at.slice_bounds-d-end-2 c).Start).D-high)
 
 pub slice_bounds-s-end : goal.slice_bounds-s-end
 slice_bounds-s-end c = (big (goal.at.slice_bounds-s-end c).Start).S-high
 
-pub slice_bounds-calls-end-3 : goal.slice_bounds-calls-end-3
-slice_bounds-calls-end-3 c = sym (blank-long _ 32 (pos 0) (big (goal.at.slice_bounds-calls-end-3 c).Start).S-high)
-
-pub calls-answer-requires : goal.calls-answer-requires
-calls-answer-requires c = record { rebuilt = c.requires.rebuilt; setting_value = c.requires.setting_value }
-
-pub is_refusal-requires : goal.is_refusal-requires
-is_refusal-requires c = tt
-
-pub shape_of-t1-then-is_refusal : goal.shape_of-t1-then-is_refusal
-shape_of-t1-then-is_refusal c = refl
-
-pub shape_of-d1-then-is_refusal : goal.shape_of-d1-then-is_refusal
-shape_of-d1-then-is_refusal c = refl
-
-pub shape_of-s1-then-is_refusal : goal.shape_of-s1-then-is_refusal
-shape_of-s1-then-is_refusal c = refl
-
-pub returns-then-is_refusal : goal.returns-then-is_refusal
-returns-then-is_refusal c =
-    let m = (goal.at.returns-then-is_refusal c).After-calls-answer in
-    let s = start m in
-    let refused = sym c.is_refusal.ensures ∙ c.if-is_refusal.true in
-    ap (λ (z : Node). ends (verdict_of m.calls-answer.result) z) (node_same _ _ _ _ _ _ _ _ refl refl (count-before _ _ _ refused) refl)
-    ∙ fold-refuses (p s) s.args.a.now (first s) (second s) s.args.c.now _ (left (goal.at.returns-then-is_refusal c).After-calls-answer) (made (goal.at.returns-then-is_refusal c).After-calls-answer) refused
-
-pub slice_bounds-t-end-2 : goal.slice_bounds-t-end-2
-slice_bounds-t-end-2 c = (T_back (goal.at.slice_bounds-t-end-2 c).After-calls-answer).fits
-
-pub slice_bounds-copy_words-end : goal.slice_bounds-copy_words-end
-slice_bounds-copy_words-end c = sym (T_back (goal.at.slice_bounds-copy_words-end c).After-calls-answer).long
-
-pub copy_words-requires : goal.copy_words-requires
-copy_words-requires c = (T_back (goal.at.copy_words-requires c).After-calls-answer).long ∙ sym c.requires.fits_node.0
-
-pub slice_bounds-d-end-2 : goal.slice_bounds-d-end-2
-slice_bounds-d-end-2 c = (D-back (goal.at.slice_bounds-d-end-2 c).After-calls-answer).fits
-
-pub slice_bounds-copy_wholes-end : goal.slice_bounds-copy_wholes-end
-slice_bounds-copy_wholes-end c = sym (D-back (goal.at.slice_bounds-copy_wholes-end c).After-calls-answer).long
-
-pub copy_wholes-requires : goal.copy_wholes-requires
-copy_wholes-requires c = (D-back (goal.at.copy_wholes-requires c).After-calls-answer).long ∙ sym c.requires.fits_node.1
-
 pub slice_bounds-s-end-2 : goal.slice_bounds-s-end-2
-slice_bounds-s-end-2 c = (S-back (goal.at.slice_bounds-s-end-2 c).After-calls-answer).fits
+slice_bounds-s-end-2 c = sym (blank-long _ 32 (pos 0) (big (goal.at.slice_bounds-s-end-2 c).Start).S-high)
 
-pub slice_bounds-copy_wholes-end-2 : goal.slice_bounds-copy_wholes-end-2
-slice_bounds-copy_wholes-end-2 c = sym (S-back (goal.at.slice_bounds-copy_wholes-end-2 c).After-calls-answer).long
+pub returns-in_err-verdict : goal.returns-in_err-verdict
+unfolding verdict_of refuses refusal
+returns-in_err-verdict c =
+    let s = (goal.at.returns-in_err-verdict c).Start in
+    let b = big s in
+    let e = err_from_is_err_and c.from_residual.result c.from_residual.ensures.1 in
+    let n = number_of c.in_err-verdict.field-0.0 in
+    let said = c.in_err-verdict.ensures.answer ∙ ap (λ (o : Outcome Node). o.answer) (blank-found s _ _ _ (blank _ 16 0 b.T-high) (blank _ 4 (pos 0) b.D-high) (blank _ 32 (pos 0) b.S-high)) in
+    rw (e.1, e.2) (fold-refuses (p s) s.args.a.now (first s) (second s) s.args.c.now (refused n) (made s).outputs (ap (λ (a : Meaning). ends a (made s).outputs) said) refl)
 
-pub copy_wholes-requires-2 : goal.copy_wholes-requires-2
-copy_wholes-requires-2 c = (S-back (goal.at.copy_wholes-requires-2 c).After-calls-answer).long ∙ sym c.requires.fits_node.2
+pub copy-requires : goal.copy-requires
+copy-requires c = let s = (goal.at.copy-requires c).Start in c.calls.auto.t ∙ blank-long _ 16 0 (big s).T-high ∙ sym c.requires.fits_node.0
 
-pub shape_of-t1 : goal.shape_of-t1
-shape_of-t1 c = c.copy_words.auto.to
+pub copy-requires-2 : goal.copy-requires-2
+copy-requires-2 c = let s = (goal.at.copy-requires-2 c).Start in c.calls.auto.d ∙ blank-long _ 4 (pos 0) (big s).D-high ∙ sym c.requires.fits_node.1
 
-pub shape_of-d1 : goal.shape_of-d1
-shape_of-d1 c = c.copy_wholes.auto.to
-
-pub shape_of-s1 : goal.shape_of-s1
-shape_of-s1 c = c.copy_wholes-2.auto.to
+pub copy-requires-3 : goal.copy-requires-3
+copy-requires-3 c = let s = (goal.at.copy-requires-3 c).Start in c.calls.auto.s ∙ blank-long _ 32 (pos 0) (big s).S-high ∙ sym c.requires.fits_node.2
 
 pub returns : goal.returns
 returns c =
-    let m = (goal.at.returns c).After-calls-answer in
-    let s = start m in
-    let e = c in
-    let goes_on = sym e.is_refusal.ensures ∙ e.if-is_refusal.false in
-    ap (λ (z : Node). ends (verdict_of m.calls-answer.result) z) (node_same _ _ _ _ _ _ _ _ (c.copy_words.ensures ∙ (T_back (goal.at.returns c).After-calls-answer).same) (c.copy_wholes.ensures ∙ (D-back (goal.at.returns c).After-calls-answer).same) (count-after _ _ _ goes_on) (c.copy_wholes-2.ensures ∙ (S-back (goal.at.returns c).After-calls-answer).same))
-    ∙ fold-ends (p s) s.args.a.now (first s) (second s) s.args.c.now _ (left (goal.at.returns c).After-calls-answer) (made (goal.at.returns c).After-calls-answer) goes_on
+    let s = (goal.at.returns c).Start in
+    let b = big s in
+    let verdict = c.in_ok-verdict.verdict in
+    let goes_on = passes_on verdict in
+    ap (λ (z : Node). ends (verdict_of (Ok verdict)) z) (node_same _ _ _ _ _ _ _ _ c.copy.ensures c.copy-2.ensures (count-after _ _ _ goes_on) c.copy-3.ensures)
+    ∙ fold-ends (p s) s.args.a.now (first s) (second s) s.args.c.now _ _
+    (c.in_ok-verdict.ensures.node ∙ blank-found s _ _ _ (blank _ 16 0 b.T-high) (blank _ 4 (pos 0) b.D-high) (blank _ 32 (pos 0) b.S-high)) goes_on

@@ -1,33 +1,37 @@
 -- `joins::join` meets its contract: refused by the setting's rules or by its own, or else T and D are written and the leaves added.
-use mathlib.Core.Path.{◌≡◌, sym, ◌∙◌, ap, ap₂}
+use mathlib.Core.Path.{refl, sym, ◌∙◌, ap, ap₂}
 use mathlib.Core.List.{List}
 use lib.IntN.{ℤ}
 use native.Mathlib.Omega.{arith}
 use Prim.Native.Nat.{ℕ, ◌+◌, ◌*◌, ◌≤◌}
+use Rattle.std.proofs.lemmas.Result.{err_from_is_err_and}
+use Rattle.settings.proofs.Numbers.{numbered-some}
 use Rattle.settings.specs.Rules.{Rule}
+use Rattle.settings.specs.Accepted.{parameters_in}
 use Rattle.settings.specs.Settings.{Parameters, parameters_of}
-use Rattle.lova.specs.Answers.{done, made_of, Outcome, ends}
+use Rattle.lova.specs.Answers.{done, answer_of, Outcome, ends}
 use Rattle.lova.specs.Stored.{Instance, Counted, counted}
-use Rattle.lova.specs.Calls.{ProperJoin, Rebuilt}
+use Rattle.lova.specs.Lent.{as_instance, lent_instance}
+use Rattle.lova.specs.Calls.{ProperJoin}
 use Rattle.lova.specs.Repeats.{repeated_instance, repeated_V}
 use Rattle.lova.specs.Join.{join_rules, joined_instance, join_in}
 use Rattle.lova.proofs.Refusals.{join-proper}
-use Rattle.lova.proofs.Rebuilding.{rebuilt, rebuilt-accepted}
+use Rattle.lova.proofs.Rebuilding.{rebuilt-is, rebuilt-accepted}
 use Rattle.lova.proofs.WaysOut.{out_by-setting, out_by-own, none_applied, out_at-end}
 use Rattle.joins.proofs.Columns.{joined_once}
 use Rattle.joins.proofs.join.Goals as goal
-use Rattle.joins.proofs.join.Goals.{After-rebuilt-checked, Else-own-ne0, Start}
+use Rattle.joins.proofs.join.Goals.{In_ok-test_join, Start}
 
 -- what is lent, what a refusal leaves, the rules, and what is written where none of them applies
 module _ (s : Start) where
   abbrev first : Counted
-  first = counted (record { T = s.args.t1.now; D = s.args.d1.now }) s.args.leaves1
+  first = lent_instance s.args.first
 
   abbrev second : Counted
-  second = counted (record { T = s.args.t2.now; D = s.args.d2.now }) s.args.leaves2
+  second = lent_instance s.args.second
 
   abbrev out : Instance
-  out = record { T = s.args.t.now; D = s.args.d.now }
+  out = as_instance s.args.t.now s.args.d.now
 
   abbrev kept : Counted
   kept = counted out 0
@@ -37,78 +41,58 @@ module _ (s : Start) where
 
   -- done with this instance, and with the leaves of both
   abbrev makes : Instance → Outcome Counted
-  makes I = ends done (counted I (s.args.leaves1 + s.args.leaves2))
+  makes I = ends done (counted I (s.args.first.leaves + s.args.second.leaves))
 
   abbrev result : Parameters → Outcome Counted
   result p = makes (joined_instance p first.instance (repeated_instance p s.args.profile second.instance) (repeated_V p s.args.profile s.args.v.now))
 
-abbrev start : After-rebuilt-checked → Start
-start c = (goal.at.After-rebuilt-checked c).Start
+pub returns-in_err-accepted : goal.returns-in_err-accepted
+unfolding join_in answer_of
+returns-in_err-accepted c =
+    let s = (goal.at.returns-in_err-accepted c).Start in
+    let p = err_from_is_err_and c.from_residual.result c.from_residual.ensures.1 in
+    rw (p.1, p.2) (out_by-setting (rules s) (kept s) (result s) (parameters_of s.args.setting) _ c.in_err-accepted.ensures)
 
--- the constructor's call before a call of the refusal
-abbrev new-at : Else-own-ne0 → After-rebuilt-checked
-new-at c = (goal.at.Else-own-ne0 c).After-rebuilt-checked
+pub returns-in_err-test_join : goal.returns-in_err-test_join
+unfolding join_in answer_of
+returns-in_err-test_join c =
+    let s = (goal.at.returns-in_err-test_join c).Start in
+    let p = err_from_is_err_and c.from_residual-in_err-test_join.result c.from_residual-in_err-test_join.ensures.1 in
+    rw (p.1, p.2) (out_by-own (rules s) (kept s) (result s) (parameters_of s.args.setting) c.in_ok-accepted.accepted.setting c.in_ok-accepted.ensures _ c.in_err-test_join.ensures (numbered-some _))
 
--- the setting is accepted
-none : (c : Else-own-ne0) → (new-at c).rebuilt-checked.result.refusal ≡ 0
-none c = omega arith
-
--- where no rule applies, the call is proper
-proper : (c : Else-own-ne0) →
-    let s = start (new-at c) in
-    ProperJoin (parameters_of (new-at c).rebuilt-checked.result.setting) s.args.profile (first s) (second s) s.args.v.now (out s)
+-- past the refusals the call is proper
+proper : (c : In_ok-test_join) →
+    let s = (goal.at.In_ok-test_join c).Start in
+    ProperJoin (parameters_in c.in_ok-accepted.accepted) s.args.profile (first s) (second s) s.args.v.now (out s)
 proper c =
-    let n = new-at c in
-    let s = start n in
-    let p = parameters_of n.rebuilt-checked.result.setting in
+    let s = (goal.at.In_ok-test_join c).Start in
+    let p = parameters_in c.in_ok-accepted.accepted in
     (join-proper p s.args.profile (first s) (second s) s.args.v.now (out s)).0
-    (none_applied (rules s) (kept s) (result s) (parameters_of s.args.setting) n.rebuilt-checked.result n.rebuilt-checked.ensures (none c) c.join_refusal-own.result c.join_refusal-own.ensures c.if-own-ne0.false)
+    (none_applied (rules s) (kept s) (result s) (parameters_of s.args.setting) c.in_ok-accepted.accepted.setting c.in_ok-accepted.ensures 0 c.in_ok-test_join.ensures refl)
 
-pub returns-then-number-ne0 : goal.returns-then-number-ne0
-unfolding join_in made_of
-returns-then-number-ne0 c =
-    let n = (goal.at.returns-then-number-ne0 c).After-rebuilt-checked in
-    let s = start n in
-    out_by-setting (rules s) (kept s) (result s) (parameters_of s.args.setting) n.rebuilt-checked.result n.rebuilt-checked.ensures c.if-number-ne0.true
-
-pub join_refusal-own-requires : goal.join_refusal-own-requires
-join_refusal-own-requires c =
-    let n = (goal.at.join_refusal-own-requires c).After-rebuilt-checked in
-    rebuilt (parameters_of (start n).args.setting) n.rebuilt-checked.result n.rebuilt-checked.ensures (omega arith)
-
-pub returns-then-own-ne0 : goal.returns-then-own-ne0
-unfolding join_in made_of
-returns-then-own-ne0 c =
-    let n = (goal.at.returns-then-own-ne0 c).After-rebuilt-checked in
-    let s = start n in
-    out_by-own (rules s) (kept s) (result s) (parameters_of s.args.setting) n.rebuilt-checked.result n.rebuilt-checked.ensures (omega arith) c.join_refusal-own.result c.join_refusal-own.ensures c.if-own-ne0.true
-
--- the new setting is the constructor's, and the joined matrices have at most 32 columns
-again : (c : Else-own-ne0) → Rebuilt (new-at c).rebuilt-checked.result.setting
-again c = let n = new-at c in rebuilt (parameters_of (start n).args.setting) n.rebuilt-checked.result n.rebuilt-checked.ensures (none c)
-
-narrow : (c : Else-own-ne0) → 2 * (new-at c).rebuilt-checked.result.setting.t ≤ 32
-narrow c = omega (arith, (rebuilt-accepted (new-at c).rebuilt-checked.result.setting (again c)).t-high)
+-- the joined matrices have at most 32 columns
+narrow : (c : In_ok-test_join) → 2 * c.in_ok-accepted.accepted.setting.t ≤ 32
+narrow c = let a = c.in_ok-accepted.accepted in omega (arith, (rebuilt-accepted a.setting (rebuilt-is a)).t-high)
 
 pub write_t-requires : goal.write_t-requires
-write_t-requires c = let l = (proper (goal.at.write_t-requires c).Else-own-ne0).lengths in (l.0.0, l.1.0, l.3.0, omega (arith, narrow (goal.at.write_t-requires c).Else-own-ne0))
+write_t-requires c =
+    let ok = (goal.at.write_t-requires c).In_ok-test_join in
+    let l = (proper ok).lengths in
+    (l.0.0, l.1.0, l.3.0, omega (arith, narrow ok))
 
 pub write_d-requires : goal.write_d-requires
 write_d-requires c =
-    let e = (goal.at.write_d-requires c).Else-own-ne0 in
-    let l = (proper e).lengths in
-    (again e, l.3.1, l.0.1, l.2, l.1.1)
+    let l = (proper (goal.at.write_d-requires c).In_ok-test_join).lengths in
+    (l.3.1, l.0.1, l.2, l.1.1)
 
 -- the sum fits, as the counts can be joined
 pub overflow_add-result : goal.overflow_add-result
-overflow_add-result c = omega (arith, (proper (goal.at.overflow_add-result c).Else-own-ne0).counts.2)
+overflow_add-result c = omega (arith, (proper (goal.at.overflow_add-result c).In_ok-test_join).counts.2)
 
 pub returns : goal.returns
-unfolding join_in made_of
+unfolding join_in answer_of
 returns c =
-    let e = (goal.at.returns c).Else-own-ne0 in
-    let n = new-at e in
-    let s = start n in
+    let s = (goal.at.returns c).Start in
     ap₂ (λ (t : List ℕ) (d : List ℤ). makes s (record { T = t; D = d })) c.write_t.ensures c.write_d.ensures
-    ∙ ap (makes s) (sym (joined_once (parameters_of n.rebuilt-checked.result.setting) s.args.profile (first s).instance (second s).instance s.args.v.now))
-    ∙ out_at-end (rules s) (kept s) (result s) (parameters_of s.args.setting) n.rebuilt-checked.result n.rebuilt-checked.ensures (none e) e.join_refusal-own.result e.join_refusal-own.ensures c.if-own-ne0.false
+    ∙ ap (makes s) (sym (joined_once (parameters_in c.in_ok-accepted.accepted) s.args.profile (first s).instance (second s).instance s.args.v.now))
+    ∙ out_at-end (rules s) (kept s) (result s) (parameters_of s.args.setting) c.in_ok-accepted.accepted.setting c.in_ok-accepted.ensures 0 c.in_ok-test_join.ensures refl

@@ -13,6 +13,6 @@ returns-clause-out_after c =
     let w = c.put_bytes-word in
     let f = c.put_u64s-end in
     let a = c.args in
-    let p = a.setting in
-    (line-put decimal param_word (p.n ∷ p.m ∷ p.t ∷ p.b ∷ p.bound ∷ []) a.out.now w.new.buf f.new.buf a.at w.result f.result
-    c.requires (omega arith) w.ensures f.ensures).0
+    let p = a.setting.now in
+    line-put decimal param_word (p.n ∷ p.m ∷ p.t ∷ p.b ∷ p.bound ∷ []) a.out.now w.new.buf f.new.buf a.at w.result f.result
+    c.requires (omega arith) w.ensures f.ensures

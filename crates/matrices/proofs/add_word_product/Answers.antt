@@ -8,7 +8,6 @@ pub returns : goal.returns
 returns c =
     let a = c.args in
     let own : (n : ℕ) → n < 2 ^ 64 → n ≡ word (pos n) = λ n h. sym (residue-small (2 ^ 64) n h) in
-    c.wrapping_add_u64.ensures.value
-    ∙ ap₂ (λ (m n : ℕ). (m + n) % 2 ^ 64) (own a.sum (omega arith))
+    ap₂ (λ (m n : ℕ). (m + n) % 2 ^ 64) (own a.sum (omega arith))
     (c.wrapping_mul.ensures ∙ ap₂ (λ (m n : ℕ). m * n % 2 ^ 64) (own a.x (omega arith)) (own a.y (omega arith)) ∙ sym (residue-* (2 ^ 64) (pos a.x) (pos a.y) (omega arith)))
     ∙ sym (residue-+ (2 ^ 64) (pos a.sum) (pos a.x *ℤ pos a.y) (omega arith))

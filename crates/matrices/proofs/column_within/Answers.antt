@@ -1,12 +1,12 @@
 -- `matrices::column_within` meets its contract: the squares of the first k entries and what is left sum to the bound.
-use Rattle.std.proofs.Common.{◌≡◌, ◌+◌, ◌*◌, ◌<◌, ℤ, nat_abs, ap, arith, w64, to_z, of_z, rules}
+use Rattle.std.proofs.Common.{◌≡◌, ◌+◌, ◌*◌, ◌<◌, ℤ, nat_abs, ap, arith, w64, SFits, to_z, of_z, rules}
 use lib.Arith.{digits_lt}
 use mir.ValLaws.{to_z-of_z}
 use Rattle.matrices.specs.Tables.{signed}
 use Rattle.matrices.proofs.Lengths.{none-taken, one-taken, too_long, all-taken}
 use Rattle.matrices.proofs.column_within.Invariants.{squares}
 use Rattle.matrices.proofs.column_within.Goals as goal
-use Rattle.matrices.proofs.column_within.Goals.{After-take_square-next, At-loop-k, In-loop-k}
+use Rattle.matrices.proofs.column_within.Goals.{At-loop-k, In-loop-k}
 
 pub loop-k-init : goal.loop-k-init
 loop-k-init c =
@@ -35,31 +35,24 @@ bounds-s-k c = omega (arith, within c)
 abbrev read : At-loop-k → ℤ
 read l = to_z w64 (of_z w64 (signed l.args.cols l.args.s.now l.loop-k.k l.args.j))
 
-square-is : (c : After-take_square-next) →
-    let l = c.before.before.before in
-    let a = l.args in
-    nat_abs (read l) * nat_abs (read l) ≡ squares a.cols a.s.now a.j l.loop-k.k
-square-is c =
-    let l = c.before.before.before in
-    let a = l.args in
-    ap (λ (z : ℤ). nat_abs z * nat_abs z) (to_z-of_z w64 (signed a.cols a.s.now l.loop-k.k a.j) (record { sfits = c.take_square-arg-1.given }))
+square-is : (l : At-loop-k) → SFits w64 (signed l.args.cols l.args.s.now l.loop-k.k l.args.j)
+    → nat_abs (read l) * nat_abs (read l) ≡ squares l.args.cols l.args.s.now l.args.j l.loop-k.k
+square-is l fits = ap (λ (z : ℤ). nat_abs z * nat_abs z) (to_z-of_z w64 (signed l.args.cols l.args.s.now l.loop-k.k l.args.j) fits)
 
-pub returns-then-not-next : goal.returns-then-not-next
-returns-then-not-next c =
-    let t = c.before.before in
-    let l = t.before.before.before in
-    let a = l.args in
-    too_long a.rows (squares a.cols a.s.now a.j) a.bound l.loop-k.k l.loop-k.left (read l) t.take_square-next.result l.loop-k.invariant.1 (square-is t) t.take_square-next.ensures
-    (omega arith) c.if-not-next.true
+pub returns-in_default : goal.returns-in_default
+returns-in_default c =
+    let l = (goal.at.returns-in_default c).At-loop-k in
+    let a = c.args in
+    too_long a.rows (squares a.cols a.s.now a.j) a.bound c.loop-k.k c.loop-k.left (read l) c.take_square.result c.loop-k.invariant.1
+    (square-is l (record { sfits = c.take_square-arg-1.given })) c.take_square.ensures (omega arith) c.in_default.is
 
 pub loop-k-preserved : goal.loop-k-preserved
 loop-k-preserved c =
-    let t = c.before.before in
-    let l = t.before.before.before in
-    let a = l.args in (
+    let l = (goal.at.loop-k-preserved c).At-loop-k in
+    let a = c.args in (
       omega arith,
-      one-taken a.rows (squares a.cols a.s.now a.j) a.bound l.loop-k.k l.loop-k.left (read l) t.take_square-next.result l.loop-k.invariant.1 (square-is t) t.take_square-next.ensures
-          c.if-not-next.false,
+      one-taken a.rows (squares a.cols a.s.now a.j) a.bound c.loop-k.k c.loop-k.left (read l) c.take_square.result c.loop-k.invariant.1
+          (square-is l (record { sfits = c.take_square-arg-1.given })) c.take_square.ensures c.in-Some.rest c.in-Some.is,
     )
 
 pub returns : goal.returns

@@ -1,5 +1,5 @@
 -- `matrices::column_within` meets its contract: the squares of the first k entries and what is left sum to the bound.
-use Rattle.std.proofs.Common.{ℕ, ◌-◌, ◌*◌, ◌≤◌, List, ℤ, nat_abs}
+use Rattle.std.proofs.Common.{ℕ, ◌*◌, ◌≤◌, List, ℤ, nat_abs}
 use Rattle.matrices.specs.Tables.{signed}
 use Rattle.matrices.proofs.Lengths.{LeftAfter}
 use Rattle.matrices.proofs.column_within.Given as goal
@@ -10,6 +10,3 @@ squares cols s j k = nat_abs (signed cols s k j) * nat_abs (signed cols s k j)
 
 abbrev pub invariant-loop-k : goal.invariant-loop-k
 invariant-loop-k l = (l.k ≤ l.rows) × LeftAfter l.rows (squares l.cols l.s l.j) l.bound l.k l.left
-
-abbrev pub decreases-loop-k : goal.decreases-loop-k
-decreases-loop-k l = l.rows - l.k

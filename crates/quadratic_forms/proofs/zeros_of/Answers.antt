@@ -117,12 +117,6 @@ overflow_mul-total-in-loop-r c = omega (arith, (small c).1)
 pub overflow_add-total-in-loop-r : goal.overflow_add-total-in-loop-r
 overflow_add-total-in-loop-r c = omega (arith, (small c).0, (small c).1)
 
-pub overflow_add-r-in-loop-r-2 : goal.overflow_add-r-in-loop-r-2
-overflow_add-r-in-loop-r-2 c = let t = counted c in omega (arith, below t, (start t).requires.rows.1)
-
-pub loop-r-smaller : goal.loop-r-smaller
-loop-r-smaller c = let t = counted c in omega (arith, below t)
-
 pub loop-r-preserved : goal.loop-r-preserved
 loop-r-preserved c =
     let t = counted c in

@@ -3,25 +3,28 @@ use mathlib.Core.Path.{◌≡◌, refl, sym, ap, subst, ◌∙◌}
 use mathlib.Core.Bool.{Bool, true, false}
 use mathlib.Core.List.{List}
 use lib.Dec.{T}
+use Rattle.std.proofs.lemmas.Result.{err_from_is_err_and}
+use Rattle.settings.proofs.Numbers.{numbered-some}
 use Rattle.settings.specs.Rules.{Rule}
+use Rattle.settings.specs.Accepted.{parameters_in}
 use Rattle.settings.specs.Settings.{Parameters, parameters_of}
 use Rattle.lova.specs.declared.Profile.TheVariants.{General}
 use Rattle.lova.specs.Answers.{Outcome, membership_of, ends, long, products, commitment, member}
+use Rattle.lova.specs.Lent.{as_instance}
 use Rattle.lova.specs.Stored.{Instance}
 use Rattle.lova.specs.Tests.{short, short_right}
-use Rattle.lova.specs.Calls.{RelationLengths, Short, Rebuilt}
+use Rattle.lova.specs.Calls.{RelationLengths}
 use Rattle.lova.specs.Relation.{relation_rules, products_hold, commitment_holds, member_word, relation}
 use Rattle.lova.proofs.Tests.{short_iff}
 use Rattle.lova.proofs.Refusals.{relation-proper}
-use Rattle.lova.proofs.Rebuilding.{rebuilt, rebuilt-accepted}
 use Rattle.lova.proofs.WaysOut.{out_by-setting, out_by-own, out_at-end, none_applied}
 use Rattle.relations.proofs.test_relation.Goals as goal
-use Rattle.relations.proofs.test_relation.Goals.{After-columns_within, After-commitment_holds, After-products_hold, After-rebuilt-checked, Else-not-columns_within, Else-not-products_hold, Else-number-ne0, Else-own-ne0, Start}
+use Rattle.relations.proofs.test_relation.Goals.{After-columns_within, After-commitment_holds, After-products_hold, In_ok-test_lengths, Start}
 
 -- what is lent, the rules, and what is answered where none of them applies
 module _ (s : Start) where
   abbrev lent : Instance
-  lent = record { T = s.args.t.now; D = s.args.d.now }
+  lent = as_instance s.args.t.now s.args.d.now
 
   abbrev rules : Parameters → List Rule
   rules p = relation_rules p s.args.a.now lent s.args.s.now
@@ -29,70 +32,49 @@ module _ (s : Start) where
   abbrev answer : Parameters → Outcome (Unit {0})
   answer p = ends (member_word (short p s.args.s.now) (products_hold p lent s.args.s.now) (commitment_holds p s.args.a.now lent s.args.s.now)) tt
 
--- the entry, and the setting that was built anew
-abbrev start : After-rebuilt-checked → Start
-start c = (goal.at.After-rebuilt-checked c).Start
-
-abbrev anew : After-rebuilt-checked → Parameters
-anew c = parameters_of c.rebuilt-checked.result.setting
-
-abbrev new-at : Else-own-ne0 → After-rebuilt-checked
-new-at c = (goal.at.Else-own-ne0 c).After-rebuilt-checked
-
-pub returns-then-number-ne0 : goal.returns-then-number-ne0
+pub returns-in_err-accepted : goal.returns-in_err-accepted
 unfolding membership_of relation
-returns-then-number-ne0 c =
-    let s = start (goal.at.returns-then-number-ne0 c).After-rebuilt-checked in
-    ap (λ (o : Outcome (Unit {0})). o.answer) (out_by-setting (rules s) tt (answer s) (parameters_of s.args.setting) c.rebuilt-checked.result c.rebuilt-checked.ensures c.if-number-ne0.true)
+returns-in_err-accepted c =
+    let s = (goal.at.returns-in_err-accepted c).Start in
+    let p = err_from_is_err_and c.from_residual.result c.from_residual.ensures.1 in
+    rw (p.1, p.2) (ap (λ (o : Outcome (Unit {0})). o.answer) (out_by-setting (rules s) tt (answer s) (parameters_of s.args.setting) _ c.in_err-accepted.ensures))
 
--- the new setting is accepted
-again : (c : Else-number-ne0) → Rebuilt c.rebuilt-checked.result.setting
-again c = rebuilt (parameters_of (start (goal.at.Else-number-ne0 c).After-rebuilt-checked).args.setting) c.rebuilt-checked.result c.rebuilt-checked.ensures c.if-number-ne0.false
-
-pub relation_refusal-own-requires : goal.relation_refusal-own-requires
-relation_refusal-own-requires c = again (goal.at.relation_refusal-own-requires c).Else-number-ne0
-
-pub returns-then-own-ne0 : goal.returns-then-own-ne0
+pub returns-in_err-test_lengths : goal.returns-in_err-test_lengths
 unfolding membership_of relation
-returns-then-own-ne0 c =
-    let n = (goal.at.returns-then-own-ne0 c).After-rebuilt-checked in
-    let s = start n in
-    ap (λ (o : Outcome (Unit {0})). o.answer)
-    (out_by-own (rules s) tt (answer s) (parameters_of s.args.setting) n.rebuilt-checked.result n.rebuilt-checked.ensures c.if-number-ne0.false c.relation_refusal-own.result c.relation_refusal-own.ensures c.if-own-ne0.true)
+returns-in_err-test_lengths c =
+    let s = (goal.at.returns-in_err-test_lengths c).Start in
+    let p = err_from_is_err_and c.from_residual-in_err-test_lengths.result c.from_residual-in_err-test_lengths.ensures.1 in
+    rw (p.1, p.2) (ap (λ (o : Outcome (Unit {0})). o.answer)
+    (out_by-own (rules s) tt (answer s) (parameters_of s.args.setting) c.in_ok-accepted.accepted.setting c.in_ok-accepted.ensures _ c.in_err-test_lengths.ensures (numbered-some _)))
 
 -- past the refusals the slices have their lengths, and the answer is the word of the three tests
-lengths : (c : Else-own-ne0) → RelationLengths (anew (new-at c)) (start (new-at c)).args.a.now (lent (start (new-at c))) (start (new-at c)).args.s.now
+lengths : (c : In_ok-test_lengths) →
+    let s = (goal.at.In_ok-test_lengths c).Start in
+    RelationLengths (parameters_in c.in_ok-accepted.accepted) s.args.a.now (lent s) s.args.s.now
 lengths c =
-    let n = new-at c in
-    let s = start n in
-    ((relation-proper (anew n) s.args.a.now (lent s) s.args.s.now).0
-    (none_applied (rules s) tt (answer s) (parameters_of s.args.setting) n.rebuilt-checked.result n.rebuilt-checked.ensures c.if-number-ne0.false c.relation_refusal-own.result c.relation_refusal-own.ensures c.if-own-ne0.false)).lengths
+    let s = (goal.at.In_ok-test_lengths c).Start in
+    ((relation-proper (parameters_in c.in_ok-accepted.accepted) s.args.a.now (lent s) s.args.s.now).0
+    (none_applied (rules s) tt (answer s) (parameters_of s.args.setting) c.in_ok-accepted.accepted.setting c.in_ok-accepted.ensures 0 c.in_ok-test_lengths.ensures refl)).lengths
 
-answers : (c : Else-own-ne0) → (answer (start (new-at c)) (anew (new-at c))).answer ≡ (relation (parameters_of (start (new-at c)).args.setting) (start (new-at c)).args.a.now (lent (start (new-at c))) (start (new-at c)).args.s.now).answer
+answers : (c : In_ok-test_lengths) →
+    let s = (goal.at.In_ok-test_lengths c).Start in
+    (answer s (parameters_in c.in_ok-accepted.accepted)).answer ≡ (relation (parameters_of s.args.setting) s.args.a.now (lent s) s.args.s.now).answer
 unfolding relation
 answers c =
-    let n = new-at c in
-    let s = start n in
+    let s = (goal.at.In_ok-test_lengths c).Start in
     ap (λ (o : Outcome (Unit {0})). o.answer)
-    (out_at-end (rules s) tt (answer s) (parameters_of s.args.setting) n.rebuilt-checked.result n.rebuilt-checked.ensures c.if-number-ne0.false c.relation_refusal-own.result c.relation_refusal-own.ensures c.if-own-ne0.false)
-
-pub columns_within-requires : goal.columns_within-requires
-columns_within-requires c = (lengths c).2
+    (out_at-end (rules s) tt (answer s) (parameters_of s.args.setting) c.in_ok-accepted.accepted.setting c.in_ok-accepted.ensures 0 c.in_ok-test_lengths.ensures refl)
 
 -- what each test's outcome says
-short-is : (c : After-columns_within) → short (anew (new-at (goal.at.After-columns_within c).Else-own-ne0)) (start (new-at (goal.at.After-columns_within c).Else-own-ne0)).args.s.now ≡ c.columns_within.result
+short-is : (c : After-columns_within) → short (parameters_in c.in_ok-accepted.accepted) c.args.s.now ≡ c.columns_within.result
 unfolding short_right
 short-is c = sym c.columns_within.ensures
 
-products-are : (c : After-products_hold) →
-    let n = new-at (goal.at.After-products_hold c).Else-own-ne0 in
-    products_hold (anew n) (lent (start n)) (start n).args.s.now ≡ c.products_hold.result
+products-are : (c : After-products_hold) → products_hold (parameters_in c.in_ok-accepted.accepted) (as_instance c.args.t.now c.args.d.now) c.args.s.now ≡ c.products_hold.result
 unfolding products_hold
 products-are c = sym c.products_hold.ensures
 
-commitment-is : (c : After-commitment_holds) →
-    let n = new-at (goal.at.After-commitment_holds c).Else-own-ne0 in
-    commitment_holds (anew n) (start n).args.a.now (lent (start n)) (start n).args.s.now ≡ c.commitment_holds.result
+commitment-is : (c : After-commitment_holds) → commitment_holds (parameters_in c.in_ok-accepted.accepted) c.args.a.now (as_instance c.args.t.now c.args.d.now) c.args.s.now ≡ c.commitment_holds.result
 unfolding commitment_holds
 commitment-is c = sym c.commitment_holds.ensures
 
@@ -114,45 +96,43 @@ module _ (isShort holdsD holds_t : Bool) where
   unfolding member_word
   says-member e f g = rw (e, f, g) refl
 
--- the tests that passed
-passed-short : (c : Else-not-columns_within) → short (anew (new-at (goal.at.Else-not-columns_within c).Else-own-ne0)) (start (new-at (goal.at.Else-not-columns_within c).Else-own-ne0)).args.s.now ≡ true
-passed-short c = short-is (goal.at.Else-not-columns_within c).After-columns_within ∙ c.if-not-columns_within.false
-
-passed-products : (c : Else-not-products_hold) →
-    let n = new-at (goal.at.Else-not-products_hold c).Else-own-ne0 in
-    products_hold (anew n) (lent (start n)) (start n).args.s.now ≡ true
-passed-products c = products-are (goal.at.Else-not-products_hold c).After-products_hold ∙ c.if-not-products_hold.false
+pub columns_within-requires : goal.columns_within-requires
+columns_within-requires c = (lengths (goal.at.columns_within-requires c).In_ok-test_lengths).2
 
 pub returns-then-not-columns_within : goal.returns-then-not-columns_within
 unfolding membership_of
-returns-then-not-columns_within c = says-long _ _ _ (short-is (goal.at.returns-then-not-columns_within c).After-columns_within ∙ c.if-not-columns_within.true) ∙ answers (goal.at.returns-then-not-columns_within c).Else-own-ne0
+returns-then-not-columns_within c =
+    let at = goal.at.returns-then-not-columns_within c in
+    says-long _ _ _ (short-is at.After-columns_within ∙ c.if-not-columns_within.true) ∙ answers at.In_ok-test_lengths
 
 pub products_hold-requires : goal.products_hold-requires
 products_hold-requires c =
-    let e = (goal.at.products_hold-requires c).Else-own-ne0 in
-    let n = new-at e in
-    let short : Short (anew n) (start n).args.s.now = (short_iff (anew n) General (start n).args.s.now).0 (subst T (sym (passed-short c)) tt) in
-    (again (goal.at.products_hold-requires c).Else-number-ne0, (lengths e).1.1, (lengths e).2, short)
+    let at = goal.at.products_hold-requires c in
+    let p = parameters_in c.in_ok-accepted.accepted in
+    let l = lengths at.In_ok-test_lengths in
+    (l.1.1, l.2, (short_iff p General c.args.s.now).0 (subst T (sym (short-is at.After-columns_within ∙ c.if-not-columns_within.false)) tt))
 
 pub returns-then-not-products_hold : goal.returns-then-not-products_hold
 unfolding membership_of
-returns-then-not-products_hold c = says-products _ _ _ (passed-short (goal.at.returns-then-not-products_hold c).Else-not-columns_within) (products-are (goal.at.returns-then-not-products_hold c).After-products_hold ∙ c.if-not-products_hold.true) ∙ answers (goal.at.returns-then-not-products_hold c).Else-own-ne0
+returns-then-not-products_hold c =
+    let at = goal.at.returns-then-not-products_hold c in
+    says-products _ _ _ (short-is at.After-columns_within ∙ c.if-not-columns_within.false) (products-are at.After-products_hold ∙ c.if-not-products_hold.true) ∙ answers at.In_ok-test_lengths
 
 pub commitment_holds-requires : goal.commitment_holds-requires
-commitment_holds-requires c =
-    let e = (goal.at.commitment_holds-requires c).Else-own-ne0 in
-    let l = lengths e in
-    let accepted = rebuilt-accepted (new-at e).rebuilt-checked.result.setting (again (goal.at.commitment_holds-requires c).Else-number-ne0) in
-    (l.0, l.1.0, l.2, accepted.n-high, accepted.t-high)
+commitment_holds-requires c = let l = lengths (goal.at.commitment_holds-requires c).In_ok-test_lengths in (l.0, l.1.0, l.2)
 
 pub returns-then-not-commitment_holds : goal.returns-then-not-commitment_holds
 unfolding membership_of
 returns-then-not-commitment_holds c =
-    let e = (goal.at.returns-then-not-commitment_holds c).Else-not-products_hold in
-    says-commitment _ _ _ (passed-short (goal.at.returns-then-not-commitment_holds c).Else-not-columns_within) (passed-products e) (commitment-is (goal.at.returns-then-not-commitment_holds c).After-commitment_holds ∙ c.if-not-commitment_holds.true) ∙ answers (goal.at.returns-then-not-commitment_holds c).Else-own-ne0
+    let at = goal.at.returns-then-not-commitment_holds c in
+    says-commitment _ _ _ (short-is at.After-columns_within ∙ c.if-not-columns_within.false) (products-are at.After-products_hold ∙ c.if-not-products_hold.false)
+    (commitment-is at.After-commitment_holds ∙ c.if-not-commitment_holds.true)
+    ∙ answers at.In_ok-test_lengths
 
 pub returns : goal.returns
 unfolding membership_of
 returns c =
-    let e = (goal.at.returns c).Else-not-products_hold in
-    says-member _ _ _ (passed-short (goal.at.returns c).Else-not-columns_within) (passed-products e) (commitment-is (goal.at.returns c).After-commitment_holds ∙ c.if-not-commitment_holds.false) ∙ answers (goal.at.returns c).Else-own-ne0
+    let at = goal.at.returns c in
+    says-member _ _ _ (short-is at.After-columns_within ∙ c.if-not-columns_within.false) (products-are at.After-products_hold ∙ c.if-not-products_hold.false)
+    (commitment-is at.After-commitment_holds ∙ c.if-not-commitment_holds.false)
+    ∙ answers at.In_ok-test_lengths

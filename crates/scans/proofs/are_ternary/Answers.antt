@@ -1,31 +1,17 @@
--- `scans::are_ternary` meets its contract: the first x bytes are 0, 1 or 2.
-use borrow.Author.Tests.{le-leb, lt-leb}
-use mathlib.Core.Path.{◌∙◌}
-use native.Mathlib.Omega.{arith}
-use lib.ListN.{length}
-use Rattle.scans.proofs.Scans.{scan-none, scan-more, scan-stop, scan-end, all-entries}
-use Rattle.scans.proofs.are_ternary.Invariants.{bytes}
+-- `scans::are_ternary` meets its contract: each byte is tested, and each is an entry.
+use borrow.Author.Tests.{tests}
+use mathlib.Core.Path.{refl, ◌∙◌}
+use lib.Dec.{leb}
+use lib.ListN.{length, get_or}
+use Rattle.std.proofs.Common.{rules}
+use Rattle.std.proofs.lemmas.Iterator.{YieldsList-from_slice}
+use Rattle.std.proofs.lemmas.Iterator.Search.{all_from_yields_List}
+use Rattle.scans.proofs.Scans.{all-places, all-entries}
 use Rattle.scans.proofs.are_ternary.Goals as goal
-
-pub loop-x-init : goal.loop-x-init
-loop-x-init c = scan-none _ _
-
-pub returns-then-c-x-gt2 : goal.returns-then-c-x-gt2
-returns-then-c-x-gt2 c =
-    let l = c in
-    let a = l.args in
-    scan-stop (length a.c.now) (bytes a.c.now) l.loop-x.x (omega arith) (lt-leb _ 2 (omega arith))
-    ∙ all-entries (length a.c.now) a.rows a.cols (bytes a.c.now) l.requires
-
-pub loop-x-preserved : goal.loop-x-preserved
-loop-x-preserved c =
-    let l = c in
-    let a = l.args in
-    scan-more (length a.c.now) (bytes a.c.now) l.loop-x.x (omega arith) (le-leb _ 2 (omega arith)) l.loop-x.invariant
 
 pub returns : goal.returns
 returns c =
-    let l = c in
-    let a = l.args in
-    scan-end (length a.c.now) (bytes a.c.now) l.loop-x.x (omega arith) l.loop-x.invariant
-    ∙ all-entries (length a.c.now) a.rows a.cols (bytes a.c.now) l.requires
+    let a = c.args in
+    all_from_yields_List (λ x. leb x 2) _ _ c.all.result c.all.ensures.ran (YieldsList-from_slice a.c.now cc) (λ x b q k. search (rules, tests))
+    ∙ all-places (λ x. leb x 2) 0 a.c.now (length a.c.now) (λ i. leb (get_or a.c.now i 0) 2) refl (λ i l. refl)
+    ∙ all-entries (length a.c.now) a.rows a.cols (λ i. leb (get_or a.c.now i 0) 2) c.requires

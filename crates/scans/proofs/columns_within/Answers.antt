@@ -1,27 +1,21 @@
--- `scans::columns_within` meets its contract: the first j columns are short enough.
-use mathlib.Core.Path.{sym, ◌∙◌}
+-- `scans::columns_within` meets its contract: each column is tested.
+use borrow.Author.Tests.{tests}
+use mathlib.Core.Path.{refl, ◌∙◌}
+use mathlib.Core.Bool.{Bool}
+use Prim.Native.Nat.{ℕ}
 use native.Mathlib.Omega.{arith}
-use Rattle.scans.proofs.Scans.{scan-none, scan-more, scan-stop, scan-end}
-use Rattle.scans.proofs.columns_within.Invariants.{short}
+use lib.Dec.{leb}
+use Rattle.std.proofs.Common.{rules}
+use Rattle.std.proofs.lemmas.Iterator.{YieldsList-from_range}
+use Rattle.std.proofs.lemmas.Iterator.Search.{all_from_yields_List}
+use Rattle.matrices.specs.Matrices.{squared_length}
+use Rattle.matrices.specs.Tables.{signed}
+use Rattle.scans.proofs.Scans.{all-range}
 use Rattle.scans.proofs.columns_within.Goals as goal
-
-pub loop-j-init : goal.loop-j-init
-loop-j-init c = scan-none _ _
-
-pub returns-then-not-column_within : goal.returns-then-not-column_within
-returns-then-not-column_within c =
-    let l = c in
-    let a = l.args in
-    scan-stop a.cols (short a.s.now a.m a.cols a.bound) l.loop-j.j (omega arith) (sym c.column_within.ensures ∙ c.if-not-column_within.true)
-
-pub loop-j-preserved : goal.loop-j-preserved
-loop-j-preserved c =
-    let l = c in
-    let a = l.args in
-    scan-more a.cols (short a.s.now a.m a.cols a.bound) l.loop-j.j (omega arith) (sym c.column_within.ensures ∙ c.if-not-column_within.false) l.loop-j.invariant
 
 pub returns : goal.returns
 returns c =
-    let l = c in
-    let a = l.args in
-    scan-end a.cols (short a.s.now a.m a.cols a.bound) l.loop-j.j (omega arith) l.loop-j.invariant
+    let a = c.args in
+    let short : ℕ → Bool = λ j. leb (squared_length a.m (signed a.cols a.s.now) j) a.bound in
+    all_from_yields_List short _ _ c.all.result c.all.ensures.ran (YieldsList-from_range 0 a.cols a.cols refl (omega arith)) (λ x b q k. search (rules, tests))
+    ∙ all-range a.cols short

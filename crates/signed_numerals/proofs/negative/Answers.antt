@@ -1,14 +1,13 @@
 -- `signed_numerals::negative` meets its contract.
-use Prim.Native.Nat.{◌-◌}
-use native.Mathlib.Omega.{arith}
-use Rattle.numerals.proofs.Signs.{negative-zero, negative_fits, negative_large, negative_bad, less-fits}
+use Rattle.std.proofs.Common.{arith}
+use Rattle.numerals.proofs.Signs.{negative-zero, negative_fits, negative_large}
 use Rattle.signed_numerals.proofs.negative.Goals as goal
 
 pub returns-then-n-eq0 : goal.returns-then-n-eq0
-returns-then-n-eq0 c = negative-zero _ _ c.in-Number.is c.if-n-eq0.true
+returns-then-n-eq0 c = negative-zero _ c.if-n-eq0.true
 
-pub overflow_sub-result : goal.overflow_sub-result
-overflow_sub-result c = less-fits (c.in-Number.n - 1) (omega arith)
+pub returns-in-Ok : goal.returns-in-Ok
+returns-in-Ok c = rw c.in-Ok.ensures.1 (negative_fits c.args.n (omega arith) c.in-Ok.ensures.0.sfits)
 
-pub returns-in-Bad : goal.returns-in-Bad
-returns-in-Bad c = negative_bad _ c.in-Bad.is
+pub returns-in-Err : goal.returns-in-Err
+returns-in-Err c = negative_large c.args.n (omega arith) c.in-Err.ensures

@@ -1,23 +1,30 @@
 -- `signed_numerals::parse_i64` meets its contract.
-use mathlib.Core.Path.{ap, ◌∙◌}
-use native.Mathlib.Omega.{arith}
-use Rattle.numerals.specs.declared.ParsedU64.{ParsedU64}
-use Rattle.numerals.specs.Numerals.{read_unsigned, unsigned_of, with_minus, without_minus, fit_signed}
-use Rattle.numerals.proofs.Signs.{empty-signed, after_minus, no_minus, rest-whole}
+use Rattle.std.proofs.Common.{◌∙◌}
+use Rattle.numerals.specs.Numerals.{with_minus, without_minus, fit_signed}
+use Rattle.numerals.proofs.Signs.{after_minus, no_minus}
 use Rattle.signed_numerals.proofs.parse_i64.Goals as goal
 
-pub returns-then-s-eq0 : goal.returns-then-s-eq0
-returns-then-s-eq0 c = empty-signed _ c.if-s-eq0.true
+pub returns-in_err-parse_u64-in-Some : goal.returns-in_err-parse_u64-in-Some
+unfolding fit_signed with_minus
+returns-in_err-parse_u64-in-Some c =
+    let cut = c.in-Some.ensures.cases in
+    let read = after_minus c.args.s.now cut.0 in
+    c.from_residual.ensures ∙ (rw (← cut.1, ← c.in_err-parse_u64-in-Some.ensures) at read)
 
-pub returns-then-s-eq45 : goal.returns-then-s-eq45
-returns-then-s-eq45 c =
-    let s = c.args.s.now in
-    c.negative.ensures
-    ∙ ap (λ (p : ParsedU64). fit_signed (with_minus (unsigned_of p))) (c.parse_u64.ensures ∙ ap read_unsigned (rest-whole s))
-    ∙ after_minus s (omega arith) c.if-s-eq45.true
+pub returns-in_ok-parse_u64-in-Some : goal.returns-in_ok-parse_u64-in-Some
+returns-in_ok-parse_u64-in-Some c =
+    let cut = c.in-Some.ensures.cases in
+    let read = after_minus c.args.s.now cut.0 in
+    c.negative.ensures ∙ (rw (← cut.1, ← c.in_ok-parse_u64-in-Some.ensures) at read)
 
-pub returns : goal.returns
-returns c =
-    c.positive.ensures
-    ∙ ap (λ (p : ParsedU64). fit_signed (without_minus (unsigned_of p))) c.parse_u64-2.ensures
-    ∙ no_minus _ (omega arith) c.if-s-eq45.false
+pub returns-in_err-parse_u64-in-None : goal.returns-in_err-parse_u64-in-None
+unfolding fit_signed without_minus
+returns-in_err-parse_u64-in-None c =
+    let read = no_minus c.args.s.now c.in-None.ensures.cases in
+    c.from_residual-in_err-parse_u64-in-None.ensures ∙ (rw (← c.in_err-parse_u64-in-None.ensures) at read)
+
+pub returns-in_ok-parse_u64-in-None : goal.returns-in_ok-parse_u64-in-None
+unfolding without_minus
+returns-in_ok-parse_u64-in-None c =
+    let read = no_minus c.args.s.now c.in-None.ensures.cases in
+    c.positive.ensures ∙ (rw (← c.in_ok-parse_u64-in-None.ensures) at read)

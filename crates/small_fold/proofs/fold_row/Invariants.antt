@@ -1,5 +1,5 @@
 -- `small_fold::fold_row` meets its contract: the first j numbers are written.
-use Prim.Native.Nat.{◌-◌, ◌*◌}
+use Prim.Native.Nat.{◌*◌}
 use lib.IntN.{pos}
 use Rattle.integers.proofs.Lists.{Filled}
 use Rattle.dots.specs.Dots.{dots}
@@ -7,6 +7,3 @@ use Rattle.small_fold.proofs.fold_row.Given as goal
 
 abbrev pub invariant-loop-j : goal.invariant-loop-j
 invariant-loop-j l = Filled l.t (λ j. dots l.p l.q 0 (j * 512) l.n) (pos 0) l.j l.out
-
-abbrev pub decreases-loop-j : goal.decreases-loop-j
-decreases-loop-j l = l.t - l.j

@@ -1,12 +1,10 @@
 -- `small_fold::packed_fold` meets its contract: the first r rows are written.
-use mathlib.Core.Path.{◌≡◌, sym, ◌∙◌}
 use mathlib.Core.List.{◌++◌}
 use Prim.Native.Nat.{ℕ, ◌+◌, ◌*◌, ◌≤◌}
 use native.Mathlib.Omega.{arith}
 use native.Mathlib.Nat.{zero-mul}
 use lib.IntN.{ℤ, pos}
-use lib.ListN.{length, take, drop, length-replicate, length-take, length-drop}
-use lib.Seq.{length-take-le}
+use lib.ListN.{drop, length-replicate, length-take, length-drop}
 use Rattle.matrices.specs.Matrices.{product}
 use Rattle.matrices.specs.Tables.{signed}
 use Rattle.matrices.proofs.Tables.{row_within, table_none, table-part-of, table-all}
@@ -32,19 +30,6 @@ loop-r-init c =
       table_none (pos 0) a.m a.t (folded c) a.out.now (0 * a.t) (zero-mul a.t) c.requires.3,
     )
 
-pub slice_bounds-p-end : goal.slice_bounds-p-end
-slice_bounds-p-end c = omega (arith, c.loop-r.invariant.1.long, c.loop-r.invariant.1.few)
-
--- the first n numbers of p
-size : (c : In-loop-r) → let n = (start (goal.at.In-loop-r c).At-loop-r).args.n in length (take n c.loop-r.p) ≡ n
-size c = length-take-le (start (goal.at.In-loop-r c).At-loop-r).args.n c.loop-r.p (omega (arith, c.loop-r.invariant.1.long, c.loop-r.invariant.1.few))
-
-pub slice_bounds-load-end : goal.slice_bounds-load-end
-slice_bounds-load-end c = sym (size (goal.at.slice_bounds-load-end c).In-loop-r)
-
-pub load-requires : goal.load-requires
-load-requires c = ((start (goal.at.load-requires c).At-loop-r).requires.0, size (goal.at.load-requires c).In-loop-r)
-
 -- row r of out
 row : (c : In-loop-r) → let a = (start (goal.at.In-loop-r c).At-loop-r).args in c.loop-r.r * a.t + a.t ≤ a.m * a.t
 row c = let a = (start (goal.at.In-loop-r c).At-loop-r).args in row_within a.m a.t c.loop-r.r c.loop-r-test.true
@@ -58,21 +43,6 @@ padded c =
     let l = c.loop-r in
     padded_row s.args.s.now s.args.n l.r l.p c.load.new.p 32767 l.invariant.1 s.requires.0.small c.load.ensures c.load.auto.p
 
-pub overflow_mul-from : goal.overflow_mul-from
-overflow_mul-from c = omega (arith, row (goal.at.overflow_mul-from c).In-loop-r)
-
-pub overflow_add-to : goal.overflow_add-to
-overflow_add-to c = omega (arith, row (goal.at.overflow_add-to c).In-loop-r)
-
-pub slice_bounds-fold_row-end : goal.slice_bounds-fold_row-end
-slice_bounds-fold_row-end c = sym (padded (goal.at.slice_bounds-fold_row-end c).After-load).long
-
-pub offset_bounds-out-from : goal.offset_bounds-out-from
-offset_bounds-out-from c = omega (arith, row (goal.at.offset_bounds-out-from c).In-loop-r)
-
-pub slice_bounds-fold_row-end-in-loop-r : goal.slice_bounds-fold_row-end-in-loop-r
-slice_bounds-fold_row-end-in-loop-r c = omega (arith, row (goal.at.slice_bounds-fold_row-end-in-loop-r c).In-loop-r, c.loop-r.invariant.2.long)
-
 pub fold_row-requires : goal.fold_row-requires
 fold_row-requires c =
     let l = (goal.at.fold_row-requires c).At-loop-r in
@@ -82,12 +52,6 @@ fold_row-requires c =
       s.requires.2,
       simp (length-take, length-drop) (omega (arith, row (goal.at.fold_row-requires c).In-loop-r, l.loop-r.invariant.2.long)),
     )
-
-pub overflow_add-r : goal.overflow_add-r
-overflow_add-r c = omega arith
-
-pub loop-r-smaller : goal.loop-r-smaller
-loop-r-smaller c = omega arith
 
 pub loop-r-preserved : goal.loop-r-preserved
 loop-r-preserved c =
@@ -102,9 +66,6 @@ loop-r-preserved c =
           (λ j h. row-times a.s.now a.n l.r l.p k.new.p 32767 l.invariant.1 s.requires.0.small k.ensures j a.q.now)
           l.invariant.2,
     )
-
-pub shape_of-out : goal.shape_of-out
-shape_of-out c = c.loop-r.invariant.2.long ∙ sym (start (goal.at.shape_of-out c).At-loop-r).requires.3
 
 pub returns : goal.returns
 returns c =

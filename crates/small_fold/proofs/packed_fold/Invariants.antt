@@ -1,5 +1,5 @@
 -- `small_fold::packed_fold` meets its contract: the first r rows are written.
-use Prim.Native.Nat.{◌-◌, ◌*◌, ◌≤◌}
+use Prim.Native.Nat.{◌*◌, ◌≤◌}
 use lib.IntN.{pos}
 use Rattle.matrices.specs.Matrices.{product}
 use Rattle.matrices.specs.Tables.{signed}
@@ -10,6 +10,3 @@ use Rattle.small_fold.proofs.packed_fold.Given as goal
 
 abbrev pub invariant-loop-r : goal.invariant-loop-r
 invariant-loop-r l = (l.r ≤ l.m) × Padded 32767 l.n l.p × TableTo (pos 0) l.m l.t (product l.n (signed l.n l.s) (by_columns l.q)) l.out (l.r * l.t)
-
-abbrev pub decreases-loop-r : goal.decreases-loop-r
-decreases-loop-r l = l.m - l.r

@@ -1,5 +1,5 @@
 -- `small_gram::add_block` meets its contract: f times the block's products is added to the first i rows.
-use mathlib.Core.Path.{◌≡◌, sym, ◌∙◌, ap}
+use mathlib.Core.Path.{◌≡◌, ◌∙◌, ap}
 use Prim.Native.Nat.{◌+◌, ◌^◌, ◌≤◌}
 use native.Mathlib.Omega.{arith}
 use lib.IntN.{ℤ, nat_abs, ◌*ℤ◌}
@@ -37,15 +37,6 @@ row c =
     let s = (goal.at.In-loop-i c).Start in
     lower-within s.args.n (after s) l.i l.start l.d c.loop-i-test.true l.invariant.rows
 
-pub overflow_add-end : goal.overflow_add-end
-overflow_add-end c = omega (arith, row c)
-
-pub overflow_add-end-in-loop-i : goal.overflow_add-end-in-loop-i
-overflow_add-end-in-loop-i c = omega (arith, row c)
-
-pub offset_bounds-d-start : goal.offset_bounds-d-start
-offset_bounds-d-start c = omega (arith, row c)
-
 pub slice_bounds-add_row-end : goal.slice_bounds-add_row-end
 slice_bounds-add_row-end c = omega (arith, row c)
 
@@ -64,18 +55,12 @@ add_row-requires c =
       lent-within a.n (added s) a.d.now l.i l.start l.d h l.invariant (2 ^ 61) s.requires.4,
     )
 
-pub loop-i-smaller : goal.loop-i-smaller
-loop-i-smaller c = omega arith
-
 pub loop-i-preserved : goal.loop-i-preserved
 loop-i-preserved c =
     let t = (goal.at.loop-i-preserved c).In-loop-i in
     let l = t.loop-i in
     let s = (goal.at.loop-i-preserved c).Start in
     lower-added-row s.args.n (added s) s.args.d.now l.i l.start l.d t.loop-i-test.true l.invariant _ c.add_row.ensures
-
-pub shape_of-d : goal.shape_of-d
-shape_of-d c = c.loop-i.invariant.rows.long ∙ sym c.requires.3
 
 pub returns : goal.returns
 returns c =

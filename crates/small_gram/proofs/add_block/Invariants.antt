@@ -1,5 +1,4 @@
 -- `small_gram::add_block` meets its contract: f times the block's products is added to the first i rows.
-use Prim.Native.Nat.{◌-◌}
 use lib.IntN.{◌*ℤ◌}
 use Rattle.matrices.proofs.Triangles.{LowerAdded}
 use Rattle.small_gram.specs.Blocks.{block_of}
@@ -7,6 +6,3 @@ use Rattle.small_gram.proofs.add_block.Given as goal
 
 abbrev pub invariant-loop-i : goal.invariant-loop-i
 invariant-loop-i l = LowerAdded l.n (λ a b. l.f *ℤ block_of l.p a b) l.initial.d l.i l.start l.d
-
-abbrev pub decreases-loop-i : goal.decreases-loop-i
-decreases-loop-i l = l.n - l.i

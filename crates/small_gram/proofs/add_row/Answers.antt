@@ -9,18 +9,12 @@ use mir.Val.{to_z, of_z}
 use mir.ValLaws.{to_z-of_z}
 use Rattle.integers.proofs.Lists.{is-build}
 use Rattle.matrices.specs.Elements.{exactly}
-use Rattle.matrices.proofs.Elements.{added_none, added-up}
+use Rattle.matrices.proofs.Elements.{added-up}
 use Rattle.dots.specs.Dots.{sizes_of}
 use Rattle.small_gram.specs.Blocks.{block_of}
 use Rattle.small_gram.proofs.Blocks.{Turn, turn-of}
 use Rattle.small_gram.proofs.add_row.Goals as goal
 use Rattle.small_gram.proofs.add_row.Goals.{After-add_product-arg-1, In-loop-j}
-
-pub loop-j-init : goal.loop-j-init
-loop-j-init c = (omega arith, added_none exactly _ 0 c.args.row.now)
-
-pub overflow_mul-j : goal.overflow_mul-j
-overflow_mul-j c = omega arith
 
 -- the products that a turn sums fit
 fits : (c : In-loop-j) →
@@ -31,9 +25,6 @@ fits c =
     let l = c in
     let s = c in
     s.requires.0 s.args.i l.loop-j.j (omega arith) (omega (arith, l.loop-j.invariant.1.long))
-
-pub thirty_two-v-requires : goal.thirty_two-v-requires
-thirty_two-v-requires c = record { left = omega arith; right = omega arith; fits = fits c }
 
 -- the sum that a turn makes
 turn : (c : After-add_product-arg-1) →
@@ -47,9 +38,6 @@ turn c =
     turn-of s.args.p.now s.args.i l.loop-j.j s.args.f (get_or l.loop-j.row l.loop-j.j (pos 0)) c.thirty_two-v.result
     (fits (goal.at.After-add_product-arg-1 c).In-loop-j) c.thirty_two-v.ensures s.ranges.f (record { sfits = c.add_product-arg-1.given }) s.requires.2 room
 
-pub overflow_cast-v : goal.overflow_cast-v
-overflow_cast-v c = (turn c).fits
-
 pub add_product-requires : goal.add_product-requires
 add_product-requires c = (turn c).asks
 
@@ -61,9 +49,6 @@ loop-j-preserved c =
       added-up exactly (λ j. to_z w64 (of_z w64 a.f) *ℤ block_of a.p.now a.i j) 0 l.loop-j.j a.row.now l.loop-j.row _ l.loop-j.invariant.1
           (omega arith) ((turn (goal.at.loop-j-preserved c).After-add_product-arg-1).gives c.add_product.ensures (record { sfits = c.add_product.type_inv })),
     )
-
-pub shape_of-row : goal.shape_of-row
-shape_of-row c = c.loop-j.invariant.1.long
 
 pub returns : goal.returns
 returns c =

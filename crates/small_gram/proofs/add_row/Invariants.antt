@@ -1,5 +1,5 @@
 -- `small_gram::add_row` meets its contract: f times the block's products is added to the first j numbers.
-use Prim.Native.Nat.{◌-◌, ◌≤◌}
+use Prim.Native.Nat.{◌≤◌}
 use lib.IntN.{◌*ℤ◌}
 use lib.ListN.{length}
 use Rattle.matrices.specs.Elements.{exactly, Added}
@@ -8,6 +8,3 @@ use Rattle.small_gram.proofs.add_row.Given as goal
 
 abbrev pub invariant-loop-j : goal.invariant-loop-j
 invariant-loop-j l = (l.j ≤ length l.initial.row) × Added exactly (λ j. l.f *ℤ block_of l.p l.i j) 0 l.j l.initial.row l.row
-
-abbrev pub decreases-loop-j : goal.decreases-loop-j
-decreases-loop-j l = length l.initial.row - l.j

@@ -1,5 +1,6 @@
 -- `small_gram::packed_gram` meets its contract: `out` holds the Gram matrix of the first `base` rows.
-use mathlib.Core.Path.{◌≡◌, sym, ◌∙◌, ap}
+use Rattle.std.proofs.Common.{rules, ◌+◌}
+use mathlib.Core.Path.{◌≡◌, ◌∙◌, ap}
 use native.Mathlib.Omega.{arith}
 use lib.IntN.{pos}
 use lib.ListN.{length, length-replicate}
@@ -18,7 +19,7 @@ loop-base-init c =
       omega arith,
       length-replicate 16384 (pos 0),
       within-zeros 32767 16384,
-      gram-none s.args.s.now s.args.cols c.clear.new.d (length s.args.out.now) s.requires.3 c.clear.ensures,
+      gram-none s.args.s.now s.args.cols c.fill.new.self (length s.args.out.now) s.requires.3 (c.fill.ensures.after (λ y h. search rules)),
     )
 
 -- the function's entry, seen from the loop
@@ -30,9 +31,6 @@ long : (c : At-loop-base) → length c.loop-base.out ≡ triangular (start c).ar
 long c =
     let a = (start c).args in
     ap length c.loop-base.invariant.3 ∙ length-lower a.cols (gram c.loop-base.base (signed a.cols a.s.now))
-
-pub slice_bounds-pack-end : goal.slice_bounds-pack-end
-slice_bounds-pack-end c = sym c.loop-base.invariant.1
 
 pub pack-requires : goal.pack-requires
 pack-requires c =
@@ -48,9 +46,6 @@ turn c = (goal.at.After-pack c).In-loop-base
 block-long : (c : After-pack) → length c.pack.new.p ≡ 16384
 block-long c = c.pack.auto.p ∙ (turn c).loop-base.invariant.1
 
-pub slice_bounds-add_block-end : goal.slice_bounds-add_block-end
-slice_bounds-add_block-end c = sym (block-long (goal.at.slice_bounds-add_block-end c).After-pack)
-
 pub add_block-requires : goal.add_block-requires
 add_block-requires c =
     let t = (goal.at.add_block-requires c).After-pack in
@@ -64,12 +59,6 @@ add_block-requires c =
       gram-room a.s.now a.cols l.loop-base.base l.loop-base.out (omega (arith, (turn t).loop-base-test.true, s.requires.2)) s.requires.0.small l.loop-base.invariant.3,
     )
 
-pub overflow_add-base : goal.overflow_add-base
-overflow_add-base c = omega arith
-
-pub loop-base-smaller : goal.loop-base-smaller
-loop-base-smaller c = omega arith
-
 pub loop-base-preserved : goal.loop-base-preserved
 loop-base-preserved c =
     let t = (goal.at.loop-base-preserved c).After-pack in
@@ -81,11 +70,18 @@ loop-base-preserved c =
       gram-more a.s.now a.cols l.loop-base.base _ l.loop-base.out _ t.pack.ensures l.loop-base.invariant.3 c.add_block.ensures,
     )
 
-pub shape_of-out : goal.shape_of-out
-shape_of-out c = long (goal.at.shape_of-out c).At-loop-base ∙ sym (start (goal.at.shape_of-out c).At-loop-base).requires.3
-
 pub returns : goal.returns
 returns c =
     let l = c.loop-base in
     let s = start (goal.at.returns c).At-loop-base in
     gram-all s.args.s.now s.args.cols s.args.m l.base l.out s.requires.0.long (omega arith) l.invariant.3
+
+-- and after the last block
+pub returns-2 : goal.returns-2
+returns-2 c =
+    let t = (goal.at.returns-2 c).After-pack in
+    let l = (goal.at.returns-2 c).At-loop-base in
+    let s = start l in
+    let a = s.args in
+    gram-all a.s.now a.cols a.m (l.loop-base.base + 32) _ s.requires.0.long (omega arith)
+    (gram-more a.s.now a.cols l.loop-base.base _ l.loop-base.out _ t.pack.ensures l.loop-base.invariant.3 c.add_block.ensures)

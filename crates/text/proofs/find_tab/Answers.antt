@@ -1,23 +1,13 @@
--- `text::find_tab` meets its contract: the place past the bytes before the first tab is the same from `from` and from i.
-use mathlib.Core.Path.{refl, ◌∙◌}
-use native.Mathlib.Omega.{arith}
-use Rattle.text.proofs.Bytes.{until_tab_lem, until_more, until_end}
+-- `text::find_tab` meets its contract.
+use Rattle.std.proofs.Common.{◌≡◌, ◌+◌, ap, ◌∙◌, arith, drop}
+use Rattle.std.proofs.lemmas.Grind.{common_steps}
+use Rattle.text.proofs.Bytes.{until_tab_lem, until_past}
 use Rattle.text.proofs.find_tab.Goals as goal
 
-pub loop-i-init : goal.loop-i-init
-loop-i-init c = refl
+pub returns-in-Some : goal.returns-in-Some
+returns-in-Some c =
+    let rest : c.in-Some.rest.now ≡ drop c.args.from c.args.line.now = c.in-Some.ensures.lookup.0.2 ∙ grind (arith, common_steps) in
+    ap (λ n. c.args.from + n) (c.unwrap_or.ensures ∙ rw (c.first_tab.ensures, rest) (until_tab_lem _))
 
-pub returns-then-line-i-eq9 : goal.returns-then-line-i-eq9
-returns-then-line-i-eq9 c =
-    let l = c in
-    omega (arith, l.loop-i.invariant, until_tab_lem l.args.line.now l.loop-i.i (omega arith) c.if-line-i-eq9.true)
-
-pub loop-i-preserved : goal.loop-i-preserved
-loop-i-preserved c =
-    let l = c in
-    l.loop-i.invariant ∙ until_more l.args.line.now l.loop-i.i (omega arith) c.if-line-i-eq9.false
-
-pub returns : goal.returns
-returns c =
-    let l = c in
-    omega (arith, l.loop-i.invariant, until_end l.args.line.now l.loop-i.i (omega arith))
+pub returns-in-None : goal.returns-in-None
+returns-in-None c = omega (arith, c.in-None.ensures.lookup.0, until_past c.args.line.now c.args.from)

@@ -5,9 +5,9 @@ use mathlib.Core.List.{List}
 use Prim.Native.Nat.{ℕ, ◌-◌}
 use native.Mathlib.Omega.{arith}
 use Rattle.turns.specs.declared.Turn.{Turn}
-use Rattle.turns.specs.Turns.{turn, is_proper, goes_on, next_of}
+use Rattle.turns.specs.Turns.{turn, is_proper, goes_on}
 use Rattle.turns.specs.Calls.{Proper}
-use Rattle.turns.proofs.Finding.{proper_elim, says-refused, says-group, says_none, turn_on, turn-over}
+use Rattle.turns.proofs.Finding.{proper_elim, says-refused, says-group, says_none, turn_on, turn-over, if_some, if_none}
 use Rattle.turns.proofs.find_next.Goals as goal
 use Rattle.turns.proofs.find_next.Goals.{After-is_proper, Else-goes_on, Else-not-is_proper}
 
@@ -33,7 +33,6 @@ over : (c : Else-goes_on) → let a = (goal.at.Else-goes_on c).After-is_proper i
 over c = sym c.goes_on.ensures ∙ c.if-goes_on.false
 
 pub returns-then-not-is_proper : goal.returns-then-not-is_proper
-unfolding next_of
 returns-then-not-is_proper c =
     let a = (goal.at.returns-then-not-is_proper c).After-is_proper in
     c.with_turn.ensures ∙ says-refused (w a) (W a) (t a) (sym a.is_proper.ensures ∙ c.if-not-is_proper.true)
@@ -49,7 +48,6 @@ overflow_add-used c =
     record { fits = omega (arith, p.used, most) }
 
 pub returns-then-goes_on : goal.returns-then-goes_on
-unfolding next_of
 returns-then-goes_on c =
     let e = (goal.at.returns-then-goes_on c).Else-not-is_proper in
     let a = (goal.at.returns-then-goes_on c).After-is_proper in
@@ -57,23 +55,20 @@ returns-then-goes_on c =
     c.with_turn-then-goes_on.ensures
     ∙ says-group (w a) (W a) (t a) _ _ (is-proper-so e) (turn_on (w a) (W a) (t a) on) (λ z. absurd (omega (arith, z, (proper e).group.0)))
 
-pub next_waiting-next-requires : goal.next_waiting-next-requires
-next_waiting-next-requires c = let e = (goal.at.next_waiting-next-requires c).Else-not-is_proper in (e.requires.1, (proper e).group)
+pub next_waiting-requires : goal.next_waiting-requires
+next_waiting-requires c = let e = (goal.at.next_waiting-requires c).Else-not-is_proper in (e.requires.1, (proper e).group)
 
-pub returns-then-next-eq0 : goal.returns-then-next-eq0
-unfolding next_of
-returns-then-next-eq0 c =
-    let searched = c in
-    let e = (goal.at.returns-then-next-eq0 c).Else-not-is_proper in
-    let a = (goal.at.returns-then-next-eq0 c).After-is_proper in
-    c.with_turn-then-next-eq0.ensures
-    ∙ says_none (w a) (W a) (t a) (is-proper-so e) (over (goal.at.returns-then-next-eq0 c).Else-goes_on) (sym searched.next_waiting-next.ensures ∙ c.if-next-eq0.true)
+pub returns-in-Some : goal.returns-in-Some
+returns-in-Some c =
+    let e = (goal.at.returns-in-Some c).Else-not-is_proper in
+    let a = (goal.at.returns-in-Some c).After-is_proper in
+    let found = if_some _ c.in-Some.next c.in-Some.ensures in
+    let next = turn-over (w a) (W a) (t a) (over (goal.at.returns-in-Some c).Else-goes_on) ∙ ap (λ (h : ℕ). turn h 1) found.0 in
+    c.with_turn-in-Some.ensures ∙ says-group (w a) (W a) (t a) _ _ (is-proper-so e) next found.1
 
-pub returns : goal.returns
-unfolding next_of
-returns c =
-    let searched = c in
-    let e = (goal.at.returns c).Else-not-is_proper in
-    let a = (goal.at.returns c).After-is_proper in
-    let next = turn-over (w a) (W a) (t a) (over (goal.at.returns c).Else-goes_on) ∙ ap (λ (h : ℕ). turn h 1) (sym searched.next_waiting-next.ensures) in
-    c.with_turn-2.ensures ∙ says-group (w a) (W a) (t a) _ _ (is-proper-so e) next c.if-next-eq0.false
+pub returns-in-None : goal.returns-in-None
+returns-in-None c =
+    let e = (goal.at.returns-in-None c).Else-not-is_proper in
+    let a = (goal.at.returns-in-None c).After-is_proper in
+    c.with_turn-in-None.ensures
+    ∙ says_none (w a) (W a) (t a) (is-proper-so e) (over (goal.at.returns-in-None c).Else-goes_on) (if_none _ c.in-None.ensures)

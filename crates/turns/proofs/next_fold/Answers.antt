@@ -1,39 +1,49 @@
 -- `turns::next_fold` meets its contract: what was found, with the counts after its answer.
 use mathlib.Core.Path.{◌≡◌, refl, sym, ap, ◌∙◌}
-use Rattle.turns.specs.declared.Next.{Next}
-use Rattle.turns.specs.declared.Next.TheVariants as Nexts
-use Rattle.turns.specs.Turns.{Found, next_of, finds, found, counts_after}
+use mathlib.Core.List.{List}
+use Prim.Native.Nat.{ℕ}
+use Rattle.std.specs.Prelude.{Option, Some, None, Result, Ok, Err}
+use Rattle.settings.specs.declared.refused.Refusal.{Refusal}
+use Rattle.settings.specs.Refusals.{numbered}
+use Rattle.turns.specs.Turns.{Found, found, one_less, counts_after}
 use Rattle.turns.proofs.Finding.{found-named, counted}
 use Rattle.turns.proofs.next_fold.Goals as goal
-use Rattle.turns.proofs.next_fold.Goals.{After-find_next-found}
+use Rattle.turns.proofs.next_fold.Goals.{In-Ok-Some}
 
--- what was found, where the case of the answer is known
-told : (c : After-find_next-found) (n : Next) → c.find_next-found.result.next ≡ n →
-    finds (next_of n) c.find_next-found.result.turn ≡ found c.args.weights c.args.waiting c.args.turn
-told c n e = ap (λ (x : Next). finds (next_of x) c.find_next-found.result.turn) (sym e) ∙ c.find_next-found.ensures
+-- the counts after the code's answer, by its case
+after-some : (W : List ℕ) (n : Result (Option ℕ) Refusal) (g : ℕ) → n ≡ Ok (Some g) → one_less W g ≡ counts_after (numbered n) W
+unfolding counts_after
+after-some W n g e = rw e refl
+
+after-none : (W : List ℕ) (n : Result (Option ℕ) Refusal) → n ≡ Ok None → W ≡ counts_after (numbered n) W
+unfolding counts_after
+after-none W n e = rw e refl
+
+after-refused : (W : List ℕ) (n : Result (Option ℕ) Refusal) (r : Refusal) → n ≡ Err r → W ≡ counts_after (numbered n) W
+unfolding counts_after
+after-refused W n r e = rw e refl
+
+some-is : (c : In-Ok-Some) → c.find_next-next.result.next ≡ Ok (Some c.in-Ok-Some.group)
+some-is c =
+    let s : c.in-Ok-Some.field-0 ≡ Some c.in-Ok-Some.group = rw c.in-Ok-Some.is at c.in-Ok-Some.field-0-is in
+    c.in-Ok-Some.is ∙ ap Ok s
 
 pub one_less-left-requires : goal.one_less-left-requires
-unfolding next_of
 one_less-left-requires c =
-    let f = (goal.at.one_less-left-requires c).After-find_next-found in
-    let g = c.in-Group.group in
-    let n = found-named c.args.weights c.args.waiting c.args.turn g (sym (ap (λ (x : Found). x.answer) (told f (Nexts.Group g) c.in-Group.is))) in
+    let f : (found c.args.weights c.args.waiting c.args.turn).answer ≡ Ok (Some c.in-Ok-Some.group) =
+    sym (ap (λ (x : Found). x.answer) c.find_next-next.ensures) ∙ ap numbered (some-is (goal.at.one_less-left-requires c).In-Ok-Some) in
+    let n = found-named c.args.weights c.args.waiting c.args.turn c.in-Ok-Some.group f in
     (n.group, n.waiting)
 
-pub returns-in-Group : goal.returns-in-Group
-unfolding next_of counts_after
-returns-in-Group c =
-    let f = (goal.at.returns-in-Group c).After-find_next-found in
-    counted c.args.weights c.args.waiting c.args.turn _ _ _ (told f _ c.in-Group.is) c.one_less-left.ensures
+pub returns-in-Ok-Some : goal.returns-in-Ok-Some
+returns-in-Ok-Some c =
+    counted c.args.weights c.args.waiting c.args.turn _ _ _ c.find_next-next.ensures
+    (c.one_less-left.ensures ∙ after-some c.args.waiting _ _ (some-is (goal.at.returns-in-Ok-Some c).In-Ok-Some))
 
-pub returns-in-None : goal.returns-in-None
-unfolding next_of counts_after
-returns-in-None c =
-    let f = (goal.at.returns-in-None c).After-find_next-found in
-    rw c.in-None.is (counted c.args.weights c.args.waiting c.args.turn _ _ _ (told f _ c.in-None.is) refl)
+pub returns-in-Ok-None : goal.returns-in-Ok-None
+returns-in-Ok-None c =
+    let s : c.in-Ok-None.field-0 ≡ None = rw c.in-Ok-None.is at c.in-Ok-None.field-0-is in
+    counted c.args.weights c.args.waiting c.args.turn _ _ _ c.find_next-next.ensures (after-none c.args.waiting _ (c.in-Ok-None.is ∙ ap Ok s))
 
-pub returns-in-Refused : goal.returns-in-Refused
-unfolding next_of counts_after
-returns-in-Refused c =
-    let f = (goal.at.returns-in-Refused c).After-find_next-found in
-    rw c.in-Refused.is (counted c.args.weights c.args.waiting c.args.turn _ _ _ (told f _ c.in-Refused.is) refl)
+pub returns-in-Err : goal.returns-in-Err
+returns-in-Err c = counted c.args.weights c.args.waiting c.args.turn _ _ _ c.find_next-next.ensures (after-refused c.args.waiting _ _ c.in-Err.is)

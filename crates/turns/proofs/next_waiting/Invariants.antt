@@ -5,8 +5,5 @@ use Rattle.groups.specs.Groups.{Group}
 use Rattle.turns.specs.Turns.{next_waiting}
 use Rattle.turns.proofs.next_waiting.Given as goal
 
-abbrev pub invariant-loop-i : goal.invariant-loop-i
-invariant-loop-i l = (l.i ≤ 8) × Group l.next × (next_waiting 8 l.waiting l.group ≡ next_waiting (8 - l.i) l.waiting l.next)
-
-abbrev pub decreases-loop-i : goal.decreases-loop-i
-decreases-loop-i l = 8 - l.i
+abbrev pub invariant-loop : goal.invariant-loop
+invariant-loop l = (l.counter ≤ 8) × Group l.next × (next_waiting 8 l.waiting l.group ≡ next_waiting (8 - l.counter) l.waiting l.next)

@@ -1,36 +1,28 @@
 -- `turns::weights_inside` meets its contract: `all` says whether the first i weights are in their range.
-use mathlib.Core.Path.{◌≡◌, sym, ap, ◌∙◌}
-use mathlib.Core.Bool.{Bool, true, false, ◌&&◌, and-true, and-false}
-use mathlib.Core.List.{List}
-use Prim.Native.Nat.{ℕ, ◌+◌}
+use mathlib.Core.Path.{◌≡◌, sym, ap, ap₂, ◌∙◌}
+use mathlib.Core.Bool.{◌&&◌}
+use Prim.Native.Nat.{ℕ, ◌<◌}
 use native.Mathlib.Omega.{arith}
+use lib.ListN.{length-take}
+use lib.Seq.{get_or-take}
+use Rattle.integers.specs.Ranges.{within}
 use Rattle.integers.specs.Tests.{all}
 use Rattle.integers.proofs.Tests.{all_none, all_more}
+use Rattle.turns.specs.Turns.{weight_range}
 use Rattle.turns.proofs.weights_inside.Invariants.{inside}
 use Rattle.turns.proofs.weights_inside.Goals as goal
-use Rattle.turns.proofs.weights_inside.Goals.{then-not-inside, else-not-inside}
 
-pub loop-i-init : goal.loop-i-init
-loop-i-init c = (omega arith, sym (all_none _))
+pub loop-weight-init : goal.loop-weight-init
+loop-weight-init c = sym (all_none _)
 
--- one weight more
-more : (w : List ℕ) (i : ℕ) (c : Bool) → inside w i ≡ c → (all i (inside w) && c) ≡ all (i + 1) (inside w)
-more w i c e = ap (λ (b : Bool). all i (inside w) && b) (sym e) ∙ sym (all_more i (inside w))
-
-pub loop-i-preserved : goal.loop-i-preserved
-loop-i-preserved c =
-    let l = c in
-    let w = l.args.weights.now in
-    let i = l.loop-i.i in (
-      omega arith,
-      elim c.if-not-inside.branch [
-        | then-not-inside x ↦ x.all-is ∙ sym (and-false (all i (inside w))) ∙ more w i false (sym c.inside.ensures ∙ x.if-not-inside.true)
-        | else-not-inside x ↦ x.all-is ∙ l.loop-i.invariant.1 ∙ sym (and-true (all i (inside w))) ∙ more w i true (sym c.inside.ensures ∙ x.if-not-inside.false)
-      ],
-    )
+pub loop-weight-preserved : goal.loop-weight-preserved
+loop-weight-preserved c =
+    let w = c.args.weights.now in
+    let i = c.loop-weight.weight-index in
+    let below : i < 8 = omega (arith, length-take 8 w) in
+    ap₂ ◌&&◌ c.loop-weight.invariant (c.inside-all.ensures ∙ ap (within weight_range) (get_or-take 8 w i 0 below)) ∙ sym (all_more i (inside w))
 
 pub returns : goal.returns
 returns c =
-    let l = c in
-    let eight : l.loop-i.i ≡ 8 = omega arith in
-    l.loop-i.invariant.1 ∙ ap (λ (n : ℕ). all n (inside l.args.weights.now)) eight
+    let eight : c.loop-weight.weight-index ≡ 8 = omega (arith, length-take 8 c.args.weights.now) in
+    c.loop-weight.invariant ∙ ap (λ (n : ℕ). all n (inside c.args.weights.now)) eight

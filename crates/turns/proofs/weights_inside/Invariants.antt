@@ -2,7 +2,7 @@
 use mathlib.Core.Path.{◌≡◌}
 use mathlib.Core.Bool.{Bool}
 use mathlib.Core.List.{List}
-use Prim.Native.Nat.{ℕ, ◌-◌, ◌≤◌}
+use Prim.Native.Nat.{ℕ}
 use lib.ListN.{get_or}
 use Rattle.integers.specs.Ranges.{within}
 use Rattle.integers.specs.Tests.{all}
@@ -13,8 +13,5 @@ use Rattle.turns.proofs.weights_inside.Given as goal
 abbrev pub inside : List ℕ → ℕ → Bool
 inside w i = within weight_range (get_or w i 0)
 
-abbrev pub invariant-loop-i : goal.invariant-loop-i
-invariant-loop-i l = (l.i ≤ 8) × (l.all ≡ all l.i (inside l.weights))
-
-abbrev pub decreases-loop-i : goal.decreases-loop-i
-decreases-loop-i l = 8 - l.i
+abbrev pub invariant-loop-weight : goal.invariant-loop-weight
+invariant-loop-weight l = (l.all ≡ all l.weight-index (inside l.weights))

@@ -4,4 +4,4 @@ use Rattle.verifier_c.proofs.lova_join.Goals as goal
 
 pub returns : goal.returns
 returns c =
-    rw (← c.setting_of-setting.ensures) (passed_counted _ c.join-made.ensures c.code_of_made.ensures c.count_of_made.ensures)
+    rw (← c.setting_of-setting.ensures) (passed_counted _ c.join-made.ensures c.code_of_answer.ensures c.count_of_made.ensures)

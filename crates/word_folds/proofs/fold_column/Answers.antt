@@ -39,9 +39,6 @@ factor c =
     let a = l.args in
     widened (by_columns a.q.now (l.loop-k.k - 1) a.j) (record { sfits = c.y-1.given })
 
-pub overflow_cast-y : goal.overflow_cast-y
-overflow_cast-y c = (factor (goal.at.overflow_cast-y c).After-y-1).fits
-
 pub loop-k-preserved : goal.loop-k-preserved
 loop-k-preserved c =
     let l = c in

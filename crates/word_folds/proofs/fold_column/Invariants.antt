@@ -15,6 +15,3 @@ term x q j k = pos (get_or x k 0) *ℤ by_columns q k j
 
 abbrev pub invariant-loop-k : goal.invariant-loop-k
 invariant-loop-k l = (l.k ≤ l.cols) × (l.sum ≡ word (Sums.sum (l.cols - l.k) (λ r. term l.x l.q l.j (l.k + r))))
-
-abbrev pub decreases-loop-k : goal.decreases-loop-k
-decreases-loop-k l = l.k

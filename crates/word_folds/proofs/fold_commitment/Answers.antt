@@ -33,42 +33,6 @@ within : (c : In-loop-i) →
     (i * a.cols + a.cols ≤ a.n * a.cols) × (i * a.t + a.t ≤ a.n * a.t)
 within c = (row_within _ _ _ c.loop-i-test.true, row_within _ _ _ c.loop-i-test.true)
 
-pub overflow_mul-from : goal.overflow_mul-from
-overflow_mul-from c = omega (arith, within c)
-
-pub overflow_add-to : goal.overflow_add-to
-overflow_add-to c = omega (arith, within c)
-
-pub overflow_mul-start : goal.overflow_mul-start
-overflow_mul-start c = omega (arith, within c)
-
-pub overflow_add-end : goal.overflow_add-end
-overflow_add-end c = omega (arith, within c)
-
-pub offset_bounds-x-from : goal.offset_bounds-x-from
-offset_bounds-x-from c = omega (arith, within c)
-
-pub slice_bounds-fold_row-count : goal.slice_bounds-fold_row-count
-slice_bounds-fold_row-count c = omega arith
-
-pub slice_bounds-fold_row-start : goal.slice_bounds-fold_row-start
-slice_bounds-fold_row-start c = omega arith
-
-pub slice_bounds-fold_row-end : goal.slice_bounds-fold_row-end
-slice_bounds-fold_row-end c = omega (arith, within c)
-
-pub offset_bounds-out-start : goal.offset_bounds-out-start
-offset_bounds-out-start c = omega (arith, within (goal.at.offset_bounds-out-start c).In-loop-i)
-
-pub slice_bounds-fold_row-count-in-loop-i : goal.slice_bounds-fold_row-count-in-loop-i
-slice_bounds-fold_row-count-in-loop-i c = omega arith
-
-pub slice_bounds-fold_row-start-in-loop-i : goal.slice_bounds-fold_row-start-in-loop-i
-slice_bounds-fold_row-start-in-loop-i c = omega arith
-
-pub slice_bounds-fold_row-end-in-loop-i : goal.slice_bounds-fold_row-end-in-loop-i
-slice_bounds-fold_row-end-in-loop-i c = omega (arith, within (goal.at.slice_bounds-fold_row-end-in-loop-i c).In-loop-i)
-
 pub fold_row-requires : goal.fold_row-requires
 fold_row-requires c =
     let l = (goal.at.fold_row-requires c).In-loop-i in

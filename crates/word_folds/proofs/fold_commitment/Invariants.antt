@@ -1,5 +1,5 @@
 -- `word_folds::fold_commitment` meets its contract: the first i rows of `out` are those of x times q.
-use Prim.Native.Nat.{◌*◌, ◌-◌}
+use Prim.Native.Nat.{◌*◌}
 use Rattle.integers.specs.Residues.{word}
 use Rattle.matrices.specs.Matrices.{product}
 use Rattle.matrices.specs.Tables.{unsigned}
@@ -9,6 +9,3 @@ use Rattle.word_folds.proofs.fold_commitment.Given as goal
 
 abbrev pub invariant-loop-i : goal.invariant-loop-i
 invariant-loop-i l = TableTo 0 l.n l.t (λ i j. word (product l.cols (unsigned l.cols l.x) (by_columns l.q) i j)) l.out (l.i * l.t)
-
-abbrev pub decreases-loop-i : goal.decreases-loop-i
-decreases-loop-i l = l.n - l.i

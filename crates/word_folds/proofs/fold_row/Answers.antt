@@ -1,5 +1,4 @@
 -- `word_folds::fold_row` meets its contract: the first j words are those of the product.
-use mathlib.Core.Path.{◌∙◌, sym}
 use Prim.Native.Nat.{ℕ}
 use native.Mathlib.Omega.{arith}
 use Rattle.integers.specs.Residues.{word}
@@ -23,20 +22,11 @@ fold_column-requires c =
     let s = c in
     (s.requires.0, s.requires.1, omega (arith, c.loop-j-test.true, s.requires.2))
 
-pub offset_bounds-row-j : goal.offset_bounds-row-j
-offset_bounds-row-j c = omega (arith, c.loop-j.invariant.long)
-
-pub bounds-row-j : goal.bounds-row-j
-bounds-row-j c = omega (arith, c.loop-j.invariant.long)
-
 pub loop-j-preserved : goal.loop-j-preserved
 loop-j-preserved c =
     let l = c in
     let s = (goal.at.loop-j-preserved c).Start in
-    filled_more s.args.t (folded s) 0 l.loop-j.j l.loop-j.row _ c.loop-j-test.true c.fold_column.ensures l.loop-j.invariant
-
-pub shape_of-row : goal.shape_of-row
-shape_of-row c = c.loop-j.invariant.long ∙ sym c.requires.3
+    filled_more s.args.t (folded s) 0 l.loop-j.j l.loop-j.row _ (omega arith) c.fold_column.ensures l.loop-j.invariant
 
 pub returns : goal.returns
 returns c =

@@ -19,15 +19,6 @@ summed c p i j = word (product p (unsigned c.args.m c.args.a.now) (signed c.args
 block_within : (c : Start) → c.args.base * c.args.cols + c.args.len * c.args.cols ≤ length c.args.s.now
 block_within c = omega (arith, rows-within c.args.m c.args.cols c.args.base c.args.len c.requires.a_len.2, c.requires.a_len.1)
 
-pub overflow_mul-top : goal.overflow_mul-top
-overflow_mul-top c = omega (arith, block_within (goal.at.overflow_mul-top c).Start)
-
-pub overflow_mul-bottom : goal.overflow_mul-bottom
-overflow_mul-bottom c = omega (arith, block_within (goal.at.overflow_mul-bottom c).Start)
-
-pub overflow_add-bottom : goal.overflow_add-bottom
-overflow_add-bottom c = omega (arith, block_within (goal.at.overflow_add-bottom c).Start)
-
 pub loop-i-init : goal.loop-i-init
 loop-i-init c =
     let s = (goal.at.loop-i-init c).Start in
@@ -56,56 +47,8 @@ within c =
       long (goal.at.In-loop-i c).At-loop-i,
     )
 
-pub overflow_mul-from : goal.overflow_mul-from
-overflow_mul-from c = omega (arith, within c)
-
-pub overflow_add-from : goal.overflow_add-from
-overflow_add-from c = omega (arith, within c, (entry (goal.at.overflow_add-from c).At-loop-i).requires.a_len.2)
-
-pub overflow_add-to : goal.overflow_add-to
-overflow_add-to c = omega (arith, within c, (entry (goal.at.overflow_add-to c).At-loop-i).requires.a_len.2)
-
-pub overflow_mul-start : goal.overflow_mul-start
-overflow_mul-start c = omega (arith, within c)
-
-pub overflow_add-end : goal.overflow_add-end
-overflow_add-end c = omega (arith, within c)
-
-pub offset_bounds-a-from : goal.offset_bounds-a-from
-offset_bounds-a-from c = omega (arith, within c, (entry (goal.at.offset_bounds-a-from c).At-loop-i).requires.a_len.2)
-
-pub slice_bounds-add_rows-count : goal.slice_bounds-add_rows-count
-slice_bounds-add_rows-count c = omega arith
-
-pub slice_bounds-add_rows-start : goal.slice_bounds-add_rows-start
-slice_bounds-add_rows-start c = omega arith
-
-pub slice_bounds-add_rows-end : goal.slice_bounds-add_rows-end
-slice_bounds-add_rows-end c = omega (arith, within c, (entry (goal.at.slice_bounds-add_rows-end c).At-loop-i).requires.a_len.2)
-
-pub offset_bounds-s-top : goal.offset_bounds-s-top
-offset_bounds-s-top c = omega (arith, block_within (entry (goal.at.offset_bounds-s-top c).At-loop-i))
-
-pub slice_bounds-add_rows-count-in-loop-i : goal.slice_bounds-add_rows-count-in-loop-i
-slice_bounds-add_rows-count-in-loop-i c = omega arith
-
-pub slice_bounds-add_rows-start-in-loop-i : goal.slice_bounds-add_rows-start-in-loop-i
-slice_bounds-add_rows-start-in-loop-i c = omega arith
-
 pub slice_bounds-add_rows-end-in-loop-i : goal.slice_bounds-add_rows-end-in-loop-i
 slice_bounds-add_rows-end-in-loop-i c = omega (arith, block_within (entry (goal.at.slice_bounds-add_rows-end-in-loop-i c).At-loop-i))
-
-pub offset_bounds-out-start : goal.offset_bounds-out-start
-offset_bounds-out-start c = omega (arith, within (goal.at.offset_bounds-out-start c).In-loop-i)
-
-pub slice_bounds-add_rows-count-in-loop-i-2 : goal.slice_bounds-add_rows-count-in-loop-i-2
-slice_bounds-add_rows-count-in-loop-i-2 c = omega arith
-
-pub slice_bounds-add_rows-start-in-loop-i-2 : goal.slice_bounds-add_rows-start-in-loop-i-2
-slice_bounds-add_rows-start-in-loop-i-2 c = omega arith
-
-pub slice_bounds-add_rows-end-in-loop-i-2 : goal.slice_bounds-add_rows-end-in-loop-i-2
-slice_bounds-add_rows-end-in-loop-i-2 c = omega (arith, within (goal.at.slice_bounds-add_rows-end-in-loop-i-2 c).In-loop-i)
 
 pub add_rows-requires : goal.add_rows-requires
 add_rows-requires c =
@@ -116,12 +59,6 @@ add_rows-requires c =
       simp (length-take, length-drop) (omega (arith, block_within s)) ∙ ap (λ (p : ℕ). p * a.cols) (sym size),
       simp (length-take, length-drop) (omega (arith, within l)),
     )
-
-pub overflow_add-i : goal.overflow_add-i
-overflow_add-i c = omega arith
-
-pub loop-i-smaller : goal.loop-i-smaller
-loop-i-smaller c = omega arith
 
 pub loop-i-preserved : goal.loop-i-preserved
 loop-i-preserved c =
@@ -135,9 +72,6 @@ loop-i-preserved c =
     (block_row a.n a.m a.cols a.base a.len l.loop-i.i a.a.now a.s.now s.requires.a_len.0 s.requires.a_len.2 t.loop-i-test.true _ _
     (renewed_row 0 _ _ new old a.out.now s.requires.out_value l.loop-i.out l.loop-i.i t.loop-i-test.true l.loop-i.invariant)
     c.add_rows.ensures)
-
-pub shape_of-out : goal.shape_of-out
-shape_of-out c = omega (arith, long (goal.at.shape_of-out c).At-loop-i)
 
 pub returns : goal.returns
 returns c =

@@ -1,9 +1,7 @@
--- `word_products::add_fours` meets its contract: the first k words of x times the first k rows of s are added, and `start` is
--- where row k starts.
-use mathlib.Core.Path.{◌∙◌}
-use Prim.Native.Nat.{◌*◌, ◌+◌, ◌≤◌}
+-- `word_products::add_fours` meets its contract: the first k words of x times the first k rows of s are added.
+use mathlib.Core.Path.{◌≡◌, refl, ◌∙◌}
+use Prim.Native.Nat.{ℕ, ◌*◌, ◌/◌, ◌+◌, ◌≤◌}
 use native.Mathlib.Omega.{arith}
-use native.Mathlib.Nat.{zero-mul, add-mul}
 use lib.IntN.{pos}
 use lib.ListN.{length, get_or, length-take, length-drop}
 use Rattle.integers.proofs.Sums.{sum-none_yet}
@@ -14,93 +12,45 @@ use Rattle.matrices.proofs.Elements.{modulo-sums, added-nothing, added-both}
 use Rattle.word_rows.specs.Rows.{row_times}
 use Rattle.word_rows.proofs.Rows.{nothing-on, times_more}
 use Rattle.word_products.proofs.add_fours.Goals as goal
-use Rattle.word_products.proofs.add_fours.Goals.{At-loop-k, In-loop-k, Start}
+use Rattle.word_products.proofs.add_fours.Goals.{In-loop-four}
 
-pub loop-k-init : goal.loop-k-init
-loop-k-init c =
-    let a = c.args in (
-      omega arith,
-      omega (arith, zero-mul a.cols),
-      added-nothing modulo (row_times 0 a.x.now (signed a.cols a.s.now)) 0 (length a.row.now) a.row.now (omega arith)
-          (λ j l. nothing-on (get_or a.row.now j 0) _ (c.type_inv.row j).fits (sum-none_yet _)),
-    )
+pub loop-four-init : goal.loop-four-init
+loop-four-init c =
+    let a = c.args in
+    added-nothing modulo (row_times 0 a.x.now (signed a.cols a.s.now)) 0 (length a.row.now) a.row.now (omega arith)
+    (λ j l. nothing-on (get_or a.row.now j 0) _ (c.type_inv.row j).fits (sum-none_yet _))
 
--- the function's entry, seen from the loop
-abbrev entry : At-loop-k → Start
-entry c = (goal.at.At-loop-k c).Start
+-- the four words of x and rows of s that a turn reads, from number k on, lie within them
+module _ (c : In-loop-four) where
+  abbrev k : ℕ
+  k = 4 * c.loop-four.four
 
--- the four rows of s that a turn reads lie within it
-within : (c : In-loop-k) →
-    let a = (entry (goal.at.In-loop-k c).At-loop-k).args in
-    c.loop-k.start + 4 * a.cols ≤ length a.x.now * a.cols
-within c =
-    let a = (entry (goal.at.In-loop-k c).At-loop-k).args in
-    omega (arith, c.loop-k.invariant.1, rows-within (length a.x.now) a.cols c.loop-k.k 4 (omega arith))
+  four : k + 4 ≤ length c.args.x.now
+  four = omega (arith, c.loop-four-test.true)
 
-pub overflow_sub-x : goal.overflow_sub-x
-overflow_sub-x c = omega arith
+  within : k * c.args.cols + 4 * c.args.cols ≤ length c.args.x.now * c.args.cols
+  within = rows-within (length c.args.x.now) c.args.cols k 4 four
 
-pub overflow_mul-end : goal.overflow_mul-end
-overflow_mul-end c = omega (arith, within c)
-
-pub overflow_add-end : goal.overflow_add-end
-overflow_add-end c = omega (arith, within c)
-
-pub overflow_add-k : goal.overflow_add-k
-overflow_add-k c = omega arith
-
-pub offset_bounds-x-k : goal.offset_bounds-x-k
-offset_bounds-x-k c = omega arith
-
-pub slice_bounds-add_four_rows-count : goal.slice_bounds-add_four_rows-count
-slice_bounds-add_four_rows-count c = omega arith
-
-pub slice_bounds-add_four_rows-start : goal.slice_bounds-add_four_rows-start
-slice_bounds-add_four_rows-start c = omega arith
-
-pub slice_bounds-add_four_rows-end : goal.slice_bounds-add_four_rows-end
-slice_bounds-add_four_rows-end c = omega arith
-
-pub offset_bounds-s-start : goal.offset_bounds-s-start
-offset_bounds-s-start c = omega (arith, within (goal.at.offset_bounds-s-start c).In-loop-k)
-
-pub slice_bounds-add_four_rows-count-in-loop-k : goal.slice_bounds-add_four_rows-count-in-loop-k
-slice_bounds-add_four_rows-count-in-loop-k c = omega arith
-
-pub slice_bounds-add_four_rows-start-in-loop-k : goal.slice_bounds-add_four_rows-start-in-loop-k
-slice_bounds-add_four_rows-start-in-loop-k c = omega arith
-
-pub slice_bounds-add_four_rows-end-in-loop-k : goal.slice_bounds-add_four_rows-end-in-loop-k
-slice_bounds-add_four_rows-end-in-loop-k c = omega (arith, within (goal.at.slice_bounds-add_four_rows-end-in-loop-k c).In-loop-k)
+pub slice_bounds-add_four_rows-end-in-loop-four : goal.slice_bounds-add_four_rows-end-in-loop-four
+slice_bounds-add_four_rows-end-in-loop-four c = omega (arith, within (goal.at.slice_bounds-add_four_rows-end-in-loop-four c).In-loop-four)
 
 pub add_four_rows-requires : goal.add_four_rows-requires
 add_four_rows-requires c =
-    let t = (goal.at.add_four_rows-requires c).In-loop-k in
-    let h = (entry (goal.at.add_four_rows-requires c).At-loop-k).requires in (
-      simp (length-take, length-drop) (omega arith),
-      simp (length-take, length-drop) (omega (arith, within t, h.0)),
-      t.loop-k.invariant.2.long ∙ h.1,
+    let t = (goal.at.add_four_rows-requires c).In-loop-four in (
+      simp (length-take, length-drop) (omega (arith, four t)),
+      simp (length-take, length-drop) (omega (arith, within t, c.requires.0)),
+      c.loop-four.invariant.long ∙ c.requires.1,
     )
 
-pub overflow_add-k-in-loop-k : goal.overflow_add-k-in-loop-k
-overflow_add-k-in-loop-k c = omega arith
-
-pub loop-k-smaller : goal.loop-k-smaller
-loop-k-smaller c = omega arith
-
-pub loop-k-preserved : goal.loop-k-preserved
-loop-k-preserved c =
-    let l = (goal.at.loop-k-preserved c).At-loop-k in
-    let s = entry l in
-    let a = s.args in (
-      omega arith,
-      omega (arith, l.loop-k.invariant.1, add-mul l.loop-k.k 4 a.cols),
-      added-both modulo modulo-sums _ _ _ _ _ _ _ _ _ l.loop-k.invariant.2.long l.loop-k.invariant.2 c.add_four_rows.ensures
-          (λ j h. times_more (λ z. z) (pos 0) a.cols a.x.now a.s.now l.loop-k.k j (omega (arith, s.requires.1)) 4 l.loop-k.start l.loop-k.invariant.1),
-    )
-
-pub shape_of-row : goal.shape_of-row
-shape_of-row c = omega (arith, c.loop-k.invariant.2.long)
+pub loop-four-preserved : goal.loop-four-preserved
+loop-four-preserved c =
+    let t = (goal.at.loop-four-preserved c).In-loop-four in
+    let a = c.args in
+    let next : 4 * (c.loop-four.four + 1) ≡ k t + 4 = omega arith in
+    rw next (added-both modulo modulo-sums _ _ _ _ _ _ _ _ _ c.loop-four.invariant.long c.loop-four.invariant c.add_four_rows.ensures
+    (λ j h. times_more (λ z. z) (pos 0) a.cols a.x.now a.s.now (k t) j (omega (arith, c.requires.1)) 4 (k t * a.cols) refl))
 
 pub returns : goal.returns
-returns c = (c.loop-k.invariant.0, c.loop-k.invariant.2)
+returns c =
+    let all : c.loop-four.four ≡ length c.args.x.now / 4 = omega arith in
+    (omega arith, rw (← all) c.loop-four.invariant)

@@ -14,13 +14,13 @@ use Rattle.word_rows.proofs.Rows.{times-one}
 use Rattle.word_products.proofs.add_rows.Goals as goal
 use Rattle.word_products.proofs.add_rows.Goals.{At-loop-k, In-loop-k, Start}
 
-pub add_fours-k-requires : goal.add_fours-k-requires
-add_fours-k-requires c = c.requires
+pub add_fours-taken-requires : goal.add_fours-taken-requires
+add_fours-taken-requires c = c.requires
 
 pub loop-k-init : goal.loop-k-init
 loop-k-init c =
-    let f = c.add_fours-k.ensures in
-    (f.0, f.1.long ∙ c.requires.1, λ first w. w)
+    let f = c.add_fours-taken.ensures in
+    (f.1.long ∙ c.requires.1, λ first w. w)
 
 -- the function's entry, seen from the loop
 abbrev entry : At-loop-k → Start
@@ -32,61 +32,27 @@ within : (c : In-loop-k) →
     c.loop-k.k * a.cols + a.cols ≤ length a.x.now * a.cols
 within c = row_within _ _ _ c.loop-k-test.true
 
-pub overflow_mul-start : goal.overflow_mul-start
-overflow_mul-start c = omega (arith, within c)
-
-pub overflow_add-end : goal.overflow_add-end
-overflow_add-end c = omega (arith, within c)
-
-pub offset_bounds-x-k : goal.offset_bounds-x-k
-offset_bounds-x-k c = omega arith
-
-pub bounds-x-k : goal.bounds-x-k
-bounds-x-k c = omega arith
-
-pub offset_bounds-s-start : goal.offset_bounds-s-start
-offset_bounds-s-start c = omega (arith, within (goal.at.offset_bounds-s-start c).In-loop-k)
-
-pub slice_bounds-add_row-count : goal.slice_bounds-add_row-count
-slice_bounds-add_row-count c = omega arith
-
-pub slice_bounds-add_row-start : goal.slice_bounds-add_row-start
-slice_bounds-add_row-start c = omega arith
-
-pub slice_bounds-add_row-end : goal.slice_bounds-add_row-end
-slice_bounds-add_row-end c = omega (arith, within (goal.at.slice_bounds-add_row-end c).In-loop-k)
-
 pub add_row-requires : goal.add_row-requires
 add_row-requires c =
     let l = (goal.at.add_row-requires c).In-loop-k in
     let h = (entry (goal.at.add_row-requires c).At-loop-k).requires in
-    simp (length-take, length-drop) (omega (arith, within l, l.loop-k.invariant.1, h.0))
-
-pub overflow_add-k : goal.overflow_add-k
-overflow_add-k c = omega arith
-
-pub loop-k-smaller : goal.loop-k-smaller
-loop-k-smaller c = omega arith
+    simp (length-take, length-drop) (omega (arith, within l, l.loop-k.invariant.0, h.0))
 
 pub loop-k-preserved : goal.loop-k-preserved
 loop-k-preserved c =
     let l = (goal.at.loop-k-preserved c).At-loop-k in
     let a = (entry l).args in
     let added = c.add_row.ensures in (
-      omega arith,
-      added.long ∙ l.loop-k.invariant.1,
+      added.long ∙ l.loop-k.invariant.0,
       λ first w.
-          let before = l.loop-k.invariant.2 first w in
+          let before = l.loop-k.invariant.1 first w in
           added-both modulo modulo-sums _ _ _ _ _ _ _ _ _ before.long before added
-          (λ j h. times-one (λ z. z) (pos 0) a.cols a.x.now a.s.now l.loop-k.k j (omega (arith, before.long, l.loop-k.invariant.1))),
+          (λ j h. times-one (λ z. z) (pos 0) a.cols a.x.now a.s.now l.loop-k.k j (omega (arith, before.long, l.loop-k.invariant.0))),
     )
-
-pub shape_of-row : goal.shape_of-row
-shape_of-row c = omega (arith, c.loop-k.invariant.1, (entry (goal.at.shape_of-row c).At-loop-k).requires.1)
 
 pub returns : goal.returns
 returns c =
     let a = (entry (goal.at.returns c).At-loop-k).args in
-    let added = c.loop-k.invariant.2 a.row.now c.add_fours-k.ensures.1 in
+    let added = c.loop-k.invariant.1 a.row.now c.add_fours-taken.ensures.1 in
     let e : c.loop-k.k ≡ length a.x.now = omega arith in
     subst (λ (n : ℕ). Added modulo (row_times n a.x.now (signed a.cols a.s.now)) 0 (length a.row.now) a.row.now c.loop-k.row) e added

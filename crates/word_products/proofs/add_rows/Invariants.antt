@@ -2,7 +2,7 @@
 -- held before the fours.
 use mathlib.Core.Path.{◌≡◌}
 use mathlib.Core.List.{List}
-use Prim.Native.Nat.{ℕ, ◌-◌, ◌≤◌}
+use Prim.Native.Nat.{ℕ}
 use lib.ListN.{length}
 use Rattle.matrices.specs.Tables.{signed}
 use Rattle.matrices.specs.Elements.{modulo, Added}
@@ -11,7 +11,4 @@ use Rattle.word_products.proofs.add_rows.Given as goal
 
 abbrev pub invariant-loop-k : goal.invariant-loop-k
 invariant-loop-k l =
-    (l.k ≤ length l.x) × (length l.row ≡ l.cols) × ((first : List ℕ) → Added modulo (row_times l.initial.k l.x (signed l.cols l.s)) 0 (length first) first l.initial.row → Added modulo (row_times l.k l.x (signed l.cols l.s)) 0 (length first) first l.row)
-
-abbrev pub decreases-loop-k : goal.decreases-loop-k
-decreases-loop-k l = length l.x - l.k
+    (length l.row ≡ l.cols) × ((first : List ℕ) → Added modulo (row_times l.taken l.x (signed l.cols l.s)) 0 (length first) first l.initial.row → Added modulo (row_times l.k l.x (signed l.cols l.s)) 0 (length first) first l.row)

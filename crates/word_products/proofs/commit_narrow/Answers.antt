@@ -1,6 +1,8 @@
 -- `word_products::commit_narrow` meets its contract: the first e entries of `out` are those of the product.
-use mathlib.Core.Path.{◌≡◌, refl, sym, ◌∙◌, subst}
-use Prim.Native.Nat.{ℕ, zero, suc, ◌+◌, ◌*◌, ◌/◌, ◌%◌, ◌<◌, ◌≤◌}
+use mathlib.Core.Path.{◌≡◌, refl, sym, ◌∙◌, subst, ap}
+use mathlib.Core.List.{List}
+use lib.ListN.{length, take, drop}
+use Prim.Native.Nat.{ℕ, zero, suc, ◌+◌, ◌-◌, ◌*◌, ◌/◌, ◌%◌, ◌<◌, ◌≤◌}
 use native.Mathlib.Omega.{arith}
 use native.Mathlib.Nat.{div-lt_iff_lt-mul, mod-lt, mul-zero}
 use Rattle.integers.specs.Residues.{word}
@@ -8,6 +10,7 @@ use Rattle.integers.proofs.Lists.{filled_more}
 use Rattle.matrices.specs.Matrices.{product}
 use Rattle.matrices.specs.Tables.{unsigned, signed}
 use Rattle.matrices.proofs.Tables.{row_within, row-long, TableTo, table_none, table-all}
+use Rattle.word_rows.specs.Rows.{row_times}
 use Rattle.word_rows.proofs.Rows.{times-entry}
 use Rattle.word_products.proofs.commit_narrow.Goals as goal
 use Rattle.word_products.proofs.commit_narrow.Goals.{At-loop-e, In-loop-e, Start}
@@ -28,6 +31,10 @@ place : (rows cols e : ℕ) → e < rows * cols → (e / cols < rows) × (e % co
 place rows zero e h = absurd (omega (arith, mul-zero rows))
 place rows (suc c) e h = ((div-lt_iff_lt-mul {k = suc c} {x = e} {y = rows} (omega arith)).1 h, mod-lt e (omega arith))
 
+-- the number of a turn's entry is one of them
+below : (c : In-loop-e) → let a = (start (goal.at.In-loop-e c).At-loop-e).args in c.loop-e.e < a.n * a.cols
+below c = omega (arith, c.loop-e-test.true, c.requires.2)
+
 -- so it does in a turn, and the row of a that the turn lends lies within a
 within : (c : In-loop-e) →
     let a = (start (goal.at.In-loop-e c).At-loop-e).args in
@@ -35,44 +42,29 @@ within : (c : In-loop-e) →
     (e / a.cols < a.n) × (e % a.cols < a.cols) × (e / a.cols * a.m + a.m ≤ a.n * a.m)
 within c =
     let a = (start (goal.at.In-loop-e c).At-loop-e).args in
-    let p = place a.n a.cols c.loop-e.e c.loop-e-test.true in
+    let p = place a.n a.cols c.loop-e.e (below c) in
     (p.0, p.1, row_within a.n a.m (c.loop-e.e / a.cols) p.0)
 
-pub nonzero_div-from : goal.nonzero_div-from
-nonzero_div-from c = omega (arith, (within c).1)
+-- the row of a that a turn lends
+abbrev words : In-loop-e → List ℕ
+words c =
+    let a = (start (goal.at.In-loop-e c).At-loop-e).args in
+    let from = c.loop-e.e / a.cols * a.m in
+    take (from + a.m - from) (drop from a.a.now)
 
-pub overflow_mul-from : goal.overflow_mul-from
-overflow_mul-from c = omega (arith, within c)
-
-pub overflow_add-to : goal.overflow_add-to
-overflow_add-to c = omega (arith, within c)
-
-pub offset_bounds-a-from : goal.offset_bounds-a-from
-offset_bounds-a-from c = omega (arith, within c)
-
-pub slice_bounds-times_column-count : goal.slice_bounds-times_column-count
-slice_bounds-times_column-count c = omega arith
-
-pub slice_bounds-times_column-start : goal.slice_bounds-times_column-start
-slice_bounds-times_column-start c = omega arith
+words_long : (c : In-loop-e) → length (words c) ≡ (start (goal.at.In-loop-e c).At-loop-e).args.m
+words_long c =
+    let s = start (goal.at.In-loop-e c).At-loop-e in
+    row-long s.args.n s.args.m _ s.args.a.now s.requires.0 (within c).0
 
 pub slice_bounds-times_column-end : goal.slice_bounds-times_column-end
-slice_bounds-times_column-end c = omega (arith, within c, (start (goal.at.slice_bounds-times_column-end c).At-loop-e).requires.0)
-
-pub nonzero_rem-e : goal.nonzero_rem-e
-nonzero_rem-e c = omega (arith, (within (goal.at.nonzero_rem-e c).In-loop-e).1)
+slice_bounds-times_column-end c = omega (arith, within (goal.at.slice_bounds-times_column-end c).In-loop-e, (start (goal.at.slice_bounds-times_column-end c).At-loop-e).requires.0)
 
 pub times_column-requires : goal.times_column-requires
 times_column-requires c =
     let s = start (goal.at.times_column-requires c).At-loop-e in
     let w = within (goal.at.times_column-requires c).In-loop-e in
-    (row-long s.args.n s.args.m _ s.args.a.now s.requires.0 w.0, s.requires.1, w.1)
-
-pub bounds-out-e : goal.bounds-out-e
-bounds-out-e c = omega (arith, c.loop-e.invariant.long)
-
-pub loop-e-smaller : goal.loop-e-smaller
-loop-e-smaller c = omega arith
+    (s.requires.1 ∙ ap (λ (p : ℕ). p * s.args.cols) (sym (words_long (goal.at.times_column-requires c).In-loop-e)), w.1)
 
 pub loop-e-preserved : goal.loop-e-preserved
 loop-e-preserved c =
@@ -80,8 +72,10 @@ loop-e-preserved c =
     let l = (goal.at.loop-e-preserved c).At-loop-e in
     let a = (start l).args in
     let e = l.loop-e.e in
-    filled_more (a.n * a.cols) (λ x. summed (start l) (x / a.cols) (x % a.cols)) 0 e l.loop-e.out _ t.loop-e-test.true
-    (c.times_column.ensures ∙ times-entry a.m (e / a.cols) (e % a.cols) a.a.now (signed a.cols a.s.now)) l.loop-e.invariant
+    filled_more (a.n * a.cols) (λ x. summed (start l) (x / a.cols) (x % a.cols)) 0 e l.loop-e.out _ (below t)
+    (c.times_column.ensures
+    ∙ ap (λ (p : ℕ). word (row_times p (words t) (signed a.cols a.s.now) (e % a.cols))) (words_long t)
+    ∙ times-entry a.m (e / a.cols) (e % a.cols) a.a.now (signed a.cols a.s.now)) l.loop-e.invariant
 
 pub shape_of-out : goal.shape_of-out
 shape_of-out c = c.loop-e.invariant.long ∙ sym (start (goal.at.shape_of-out c).At-loop-e).requires.2

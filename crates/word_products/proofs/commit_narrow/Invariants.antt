@@ -1,5 +1,4 @@
 -- `word_products::commit_narrow` meets its contract: the first e entries of `out` are those of the product.
-use Prim.Native.Nat.{◌*◌, ◌-◌}
 use Rattle.integers.specs.Residues.{word}
 use Rattle.matrices.specs.Matrices.{product}
 use Rattle.matrices.specs.Tables.{unsigned, signed}
@@ -8,6 +7,3 @@ use Rattle.word_products.proofs.commit_narrow.Given as goal
 
 abbrev pub invariant-loop-e : goal.invariant-loop-e
 invariant-loop-e l = TableTo 0 l.n l.cols (λ i j. word (product l.m (unsigned l.m l.a) (signed l.cols l.s) i j)) l.out l.e
-
-abbrev pub decreases-loop-e : goal.decreases-loop-e
-decreases-loop-e l = l.n * l.cols - l.e

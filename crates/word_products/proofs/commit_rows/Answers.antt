@@ -62,30 +62,6 @@ words-times c =
 pub loop-i-init : goal.loop-i-init
 loop-i-init c = let s = (goal.at.loop-i-init c).Start in table_none _ _ _ (made s) _ _ (zero-mul s.args.cols) s.requires.2
 
-pub overflow_mul-from : goal.overflow_mul-from
-overflow_mul-from c = omega (arith, within c)
-
-pub overflow_add-to : goal.overflow_add-to
-overflow_add-to c = omega (arith, within c)
-
-pub overflow_mul-start : goal.overflow_mul-start
-overflow_mul-start c = omega (arith, within c)
-
-pub overflow_add-end : goal.overflow_add-end
-overflow_add-end c = omega (arith, within c)
-
-pub offset_bounds-a-from : goal.offset_bounds-a-from
-offset_bounds-a-from c = omega (arith, within c)
-
-pub slice_bounds-write_product-end : goal.slice_bounds-write_product-end
-slice_bounds-write_product-end c = omega (arith, within c)
-
-pub offset_bounds-out-start : goal.offset_bounds-out-start
-offset_bounds-out-start c = omega (arith, within (goal.at.offset_bounds-out-start c).In-loop-i)
-
-pub slice_bounds-write_product-end-in-loop-i : goal.slice_bounds-write_product-end-in-loop-i
-slice_bounds-write_product-end-in-loop-i c = omega (arith, within (goal.at.slice_bounds-write_product-end-in-loop-i c).In-loop-i)
-
 pub write_product-requires : goal.write_product-requires
 write_product-requires c =
     let t = (goal.at.write_product-requires c).In-loop-i in

@@ -24,26 +24,16 @@ loop-base-init c =
 abbrev entry : At-loop-base → Start
 entry c = (goal.at.At-loop-base c).Start
 
-pub overflow_sub-m : goal.overflow_sub-m
-overflow_sub-m c = omega arith
-
-pub block_length-len-requires : goal.block_length-len-requires
-block_length-len-requires c = omega arith
-
 pub add_block-requires : goal.add_block-requires
 add_block-requires c = record {
-  a_len = (c.requires.0, c.requires.1, omega (arith, c.block_length-len.ensures));
+  a_len = (c.requires.0, c.requires.1, omega (arith, c.min.ensures));
   out_value = c.loop-base.invariant.1;
 }
 
-pub overflow_add-base : goal.overflow_add-base
-overflow_add-base c = omega (arith, c.block_length-len.ensures)
-
-pub loop-base-smaller : goal.loop-base-smaller
-loop-base-smaller c = omega (arith, c.block_length-len.ensures)
-
 pub loop-base-preserved : goal.loop-base-preserved
-loop-base-preserved c = (omega (arith, c.block_length-len.ensures), c.add_block.ensures)
+loop-base-preserved c =
+    let whole : c.min.result ≡ 128 = omega (arith, c.min.ensures, c.if-m-base-gt128.true) in
+    (omega (arith, c.if-m-base-gt128.true), rw whole at c.add_block.ensures)
 
 pub shape_of-out : goal.shape_of-out
 shape_of-out c =

@@ -23,7 +23,7 @@ loop-j-init c = let s = (goal.at.loop-j-init c).Start in filled_none s.args.cols
 pub loop-j-preserved : goal.loop-j-preserved
 loop-j-preserved c =
     let l = (goal.at.loop-j-preserved c).At-loop-j in
-    filled_more (entry l).args.cols (made (entry l)) 0 l.loop-j.j l.loop-j.row _ c.loop-j-test.true
+    filled_more (entry l).args.cols (made (entry l)) 0 l.loop-j.j l.loop-j.row _ (omega (arith, c.requires.1))
     c.times_column.ensures l.loop-j.invariant
 
 pub returns : goal.returns

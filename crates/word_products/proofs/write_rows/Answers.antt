@@ -1,7 +1,6 @@
 -- `word_products::write_rows` meets its contract: what is written and what is added to it make the row.
 use mathlib.Core.Path.{◌≡◌, sym, ◌∙◌, ap}
 use Prim.Native.Nat.{ℕ, ◌≤◌}
-use native.Mathlib.Omega.{arith}
 use lib.IntN.{pos, ◌*ℤ◌}
 use lib.ListN.{length, get_or, take}
 use lib.Seq.{length-take-le}
@@ -34,9 +33,6 @@ write_row-requires c = first-long (goal.at.write_row-requires c).Start ∙ sym c
 
 pub slice_bounds-add_rows-count-2 : goal.slice_bounds-add_rows-count-2
 slice_bounds-add_rows-count-2 c = within (goal.at.slice_bounds-add_rows-count-2 c).Start
-
-pub slice_bounds-add_rows-start-2 : goal.slice_bounds-add_rows-start-2
-slice_bounds-add_rows-start-2 c = omega (arith, within (goal.at.slice_bounds-add_rows-start-2 c).Start)
 
 pub add_rows-requires : goal.add_rows-requires
 add_rows-requires c =

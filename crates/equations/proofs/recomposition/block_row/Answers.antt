@@ -32,15 +32,6 @@ module _ (c : Start) where
   begins : c.args.j * c.args.k ≤ c.args.i * c.args.k
   begins = mul-le-mul_right c.args.k c.requires.1
 
-pub overflow_mul-start : goal.overflow_mul-start
-overflow_mul-start c = omega (arith, stored (goal.at.overflow_mul-start c).Start)
-
-pub overflow_mul-start-2 : goal.overflow_mul-start-2
-overflow_mul-start-2 c = omega (arith, stored (goal.at.overflow_mul-start-2 c).Start, begins (goal.at.overflow_mul-start-2 c).Start)
-
-pub overflow_add-start-2 : goal.overflow_add-start-2
-overflow_add-start-2 c = omega (arith, stored (goal.at.overflow_add-start-2 c).Start, begins (goal.at.overflow_add-start-2 c).Start)
-
 -- left of the diagonal all k entries are stored
 pub weighted-requires : goal.weighted-requires
 weighted-requires c =
@@ -85,15 +76,6 @@ module _ (c : After-weighted-below) where
 pub overflow_add-below : goal.overflow_add-below
 overflow_add-below c = subst (λ (z : ℤ). SFits w64 (z +ℤ z)) (sym (half_is c)) (twice-fits c)
 
-pub overflow_add-start-3 : goal.overflow_add-start-3
-overflow_add-start-3 c = omega (arith, stored (goal.at.overflow_add-start-3 c).Start, begins (goal.at.overflow_add-start-3 c).Start)
-
-pub offset_bounds-x-start : goal.offset_bounds-x-start
-offset_bounds-x-start c = omega (arith, stored (goal.at.offset_bounds-x-start c).Start, begins (goal.at.offset_bounds-x-start c).Start)
-
-pub bounds-x-start : goal.bounds-x-start
-bounds-x-start c = omega (arith, stored (goal.at.bounds-x-start c).Start, begins (goal.at.bounds-x-start c).Start)
-
 -- the entry on the diagonal and its power
 module _ (c : Start) where
   abbrev entry : ℤ
@@ -104,9 +86,6 @@ module _ (c : Start) where
 
   power-fits : SFits w64 power
   power-fits = record { sfits = c.requires.3.power-fits c.args.q c.requires.0 }
-
-pub overflow_cast-powers : goal.overflow_cast-powers
-overflow_cast-powers c = power-fits (goal.at.overflow_cast-powers c).Start
 
 pub add_product-requires : goal.add_product-requires
 add_product-requires c =

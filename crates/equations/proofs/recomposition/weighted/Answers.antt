@@ -20,9 +20,6 @@ use Rattle.equations.proofs.recomposition.weighted.Goals.{Start}
 abbrev terms : Start → ℕ → ℤ
 terms s = term s.args.x.now s.args.start s.args.powers.now
 
-pub overflow_cast-powers : goal.overflow_cast-powers
-overflow_cast-powers c = record { sfits = c.requires.k_in_bounds.2 c.loop-q.q c.loop-q-test.true }
-
 pub loop-q-init : goal.loop-q-init
 loop-q-init c = (omega arith, sym (sum-none_yet _))
 

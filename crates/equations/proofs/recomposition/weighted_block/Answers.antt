@@ -27,12 +27,6 @@ fits s = rows_fit s.requires.2 s.args.i s.args.j
 pub loop-q-init : goal.loop-q-init
 loop-q-init c = (omega arith, sym (sum-none_yet _))
 
-pub block_row-row-requires : goal.block_row-row-requires
-block_row-row-requires c = (c.loop-q-test.true, c.requires.0, c.requires.1, c.requires.2)
-
-pub overflow_cast-powers : goal.overflow_cast-powers
-overflow_cast-powers c = record { sfits = c.requires.2.power-fits c.loop-q.q c.loop-q-test.true }
-
 pub add_product-sum-requires : goal.add_product-sum-requires
 add_product-sum-requires c =
     let s = (goal.at.add_product-sum-requires c).Start in

@@ -11,13 +11,10 @@ use mir.ValLaws.{to_z-of_z}
 use Rattle.integers.proofs.Sizes.{nat_abs-*}
 use Rattle.integers.proofs.Words.{read_back}
 use Rattle.matrices.specs.Elements.{exactly}
-use Rattle.matrices.proofs.Elements.{added_none, added-up, added-same}
+use Rattle.matrices.proofs.Elements.{added-up, added-same}
 use Rattle.fold_gram.proofs.Factors.{twice, twice-size}
 use Rattle.fold_gram.proofs.multiples.times_row.Goals as goal
 use Rattle.fold_gram.proofs.multiples.times_row.Goals.{In-loop-k}
-
-pub loop-k-init : goal.loop-k-init
-loop-k-init c = let a = c.args in (omega arith, added_none exactly (λ k. to_z w64 (of_z w64 a.v) *ℤ (pos 2 *ℤ get_or a.row.now k (pos 0))) 0 a.e.now)
 
 -- the sizes of the two numbers that a turn reads
 sizes : (c : In-loop-k) →
@@ -28,38 +25,20 @@ sizes c =
     let k = l.loop-k.k in
     (rw (l.loop-k.invariant.1.above k (omega arith)) (l.requires.2 k), l.requires.1 k)
 
-pub offset_bounds-e-k : goal.offset_bounds-e-k
-offset_bounds-e-k c = omega (arith, c.loop-k.invariant.1.long)
-
-pub slice_copy_out-add_product : goal.slice_copy_out-add_product
-slice_copy_out-add_product c = omega (arith, c.loop-k.invariant.1.long)
-
-pub offset_bounds-row-k : goal.offset_bounds-row-k
-offset_bounds-row-k c = omega (arith, c.loop-k.invariant.1.long)
-
-pub bounds-row-k : goal.bounds-row-k
-bounds-row-k c = omega (arith, c.loop-k.invariant.1.long)
-
 pub overflow_mul-row : goal.overflow_mul-row
 overflow_mul-row c =
     let l = c in
     (twice (get_or l.args.row.now l.loop-k.k (pos 0)) (sizes (goal.at.overflow_mul-row c).In-loop-k).1).fits
 
-pub add_product-y-requires : goal.add_product-y-requires
-add_product-y-requires c =
+pub add_product-requires : goal.add_product-requires
+add_product-requires c =
     let l = c in
     let a = l.args in
-    let h = sizes (goal.at.add_product-y-requires c).In-loop-k in
+    let h = sizes (goal.at.add_product-requires c).In-loop-k in
     let y = get_or l.loop-k.e l.loop-k.k (pos 0) in
     let x = get_or a.row.now l.loop-k.k (pos 0) in
     rw (read_back w64 y (omega arith), (twice x h.1).read, to_z-of_z w64 a.v l.ranges.v, nat_abs-* a.v (pos 2 *ℤ x))
     (omega (arith, h, mul-le-mul l.requires.3 (twice-size x h.1)))
-
-pub offset_bounds-e-k-in-loop-k : goal.offset_bounds-e-k-in-loop-k
-offset_bounds-e-k-in-loop-k c = omega (arith, c.loop-k.invariant.1.long)
-
-pub bounds-e-k : goal.bounds-e-k
-bounds-e-k c = omega (arith, c.loop-k.invariant.1.long)
 
 pub loop-k-preserved : goal.loop-k-preserved
 loop-k-preserved c =
@@ -70,12 +49,9 @@ loop-k-preserved c =
     let x = get_or a.row.now l.loop-k.k (pos 0) in (
       omega arith,
       added-up exactly (λ k. to_z w64 (of_z w64 a.v) *ℤ (pos 2 *ℤ get_or a.row.now k (pos 0))) 0 l.loop-k.k a.e.now l.loop-k.e _ l.loop-k.invariant.1 (omega (arith, l.loop-k.invariant.1.long))
-          (to_z-of_z w64 c.add_product-y.result (record { sfits = c.add_product-y.type_inv }) ∙ c.add_product-y.ensures
+          (to_z-of_z w64 c.add_product.result (record { sfits = c.add_product.type_inv }) ∙ c.add_product.ensures
           ∙ ap₂ (λ (u z : ℤ). u +ℤ to_z w64 (of_z w64 a.v) *ℤ z) (read_back w64 y (omega arith)) (twice x h.1).read),
     )
-
-pub shape_of-e : goal.shape_of-e
-shape_of-e c = c.loop-k.invariant.1.long
 
 pub returns : goal.returns
 returns c =

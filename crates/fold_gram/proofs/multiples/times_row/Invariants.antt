@@ -1,5 +1,5 @@
 -- `fold_gram::multiples::times_row` meets its contract: the row's multiple is added to the first k numbers.
-use Prim.Native.Nat.{◌-◌, ◌≤◌}
+use Prim.Native.Nat.{◌≤◌}
 use lib.IntN.{pos, ◌*ℤ◌}
 use lib.ListN.{length, get_or}
 use Rattle.matrices.specs.Elements.{exactly, Added}
@@ -7,6 +7,3 @@ use Rattle.fold_gram.proofs.multiples.times_row.Given as goal
 
 abbrev pub invariant-loop-k : goal.invariant-loop-k
 invariant-loop-k l = (l.k ≤ length l.initial.e) × Added exactly (λ k. l.v *ℤ (pos 2 *ℤ get_or l.row k (pos 0))) 0 l.k l.initial.e l.e
-
-abbrev pub decreases-loop-k : goal.decreases-loop-k
-decreases-loop-k l = length l.initial.e - l.k

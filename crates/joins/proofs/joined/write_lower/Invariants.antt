@@ -1,6 +1,6 @@
 -- `joins::joined::write_lower` meets its contract: the first i rows are written.
 use mathlib.Core.List.{List}
-use Prim.Native.Nat.{ℕ, ◌-◌, ◌*◌, ◌≤◌}
+use Prim.Native.Nat.{ℕ, ◌*◌}
 use lib.IntN.{ℤ, pos}
 use Rattle.matrices.specs.Matrices.{Matrix, transposed}
 use Rattle.matrices.specs.Tables.{signed}
@@ -21,7 +21,4 @@ abbrev pub joined : Profile → ℕ → ℕ → List ℤ → List ℤ → Matrix
 joined f cols right v d2 = beside cols (turned f right v) (second f right d2)
 
 abbrev pub invariant-loop-i : goal.invariant-loop-i
-invariant-loop-i l = (l.i ≤ l.cols) × TableTo (pos 0) l.cols (2 * l.cols) (joined l.profile l.cols l.right l.v l.d2) l.out (l.i * (2 * l.cols))
-
-abbrev pub decreases-loop-i : goal.decreases-loop-i
-decreases-loop-i l = l.cols - l.i
+invariant-loop-i l = TableTo (pos 0) l.cols (2 * l.cols) (joined l.profile l.cols l.right l.v l.d2) l.out (l.i * (2 * l.cols))

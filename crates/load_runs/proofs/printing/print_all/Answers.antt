@@ -6,9 +6,8 @@ use Rattle.load_runs.proofs.printing.print_all.Goals as goal
 
 pub loop-out-preserved : goal.loop-out-preserved
 loop-out-preserved g c =
-    let f = c.fill-filled in
+    let f = c.fill-length in
     let l = c.loop-out in (
-      f.ensures.sound_2,
-      f.auto.out ∙ l.invariant.1,
-      written-more (take f.result.length f.new.out) (to_come f.result.pending) (to_come l.rest) f.ensures.pending_after _ l.invariant.2,
+      f.auto.out ∙ l.invariant.0,
+      written-more (take f.result f.new.out) (to_come f.new.self) (to_come l.rest) f.ensures.pending_after _ l.invariant.1,
     )

@@ -3,10 +3,11 @@ use mathlib.Core.Path.{sym, ap, ◌∙◌}
 use mathlib.Core.Bool.{not}
 use Prim.Native.Nat.{◌-◌, ◌<◌}
 use native.Mathlib.Omega.{arith}
+use Rattle.std.specs.Prelude.{Ok}
 use Rattle.integers.specs.Lists.{build}
 use Rattle.integers.proofs.Lists.{get_d_map}
 use Rattle.integers.specs.Ranges.{◌to◌, In}
-use Rattle.settings.specs.Settings.{greatest, LOf, setting_of, accepted_of}
+use Rattle.settings.specs.Settings.{greatest, LOf, setting_of}
 use Rattle.settings.specs.HouseList.{parameters, house_list}
 use Rattle.settings.proofs.Refusals.{says_in}
 use Rattle.settings.proofs.Accepted.{checked_accepted}
@@ -20,12 +21,10 @@ number_in c = (says_in (1 to 4) c.args.number).passed.0 (ap not (sym c.inside.en
 
 pub returns-then-not-inside : goal.returns-then-not-inside
 returns-then-not-inside c =
-    let a = c.before.before in
-    let number = a.args.number in
-    c.refused.ensures ∙ sym (listed_outside number ((says_in (1 to 4) number).applies.0 (ap not (sym a.inside.ensures) ∙ ap not c.if-not-inside.true)))
+    sym (listed_outside c.args.number ((says_in (1 to 4) c.args.number).applies.0 (ap not (sym c.inside.ensures) ∙ ap not c.if-not-inside.true)))
 
-pub overflow_sub-setting : goal.overflow_sub-setting
-overflow_sub-setting c = omega (arith, number_in c)
+pub overflow_sub-result : goal.overflow_sub-result
+overflow_sub-result c = omega (arith, number_in c)
 
 pub offset_bounds-number : goal.offset_bounds-number
 offset_bounds-number c = omega (arith, number_in c)
@@ -39,6 +38,6 @@ returns c =
     let number = c.args.number in
     let h = number_in c.before in
     let i : number - 1 < 4 = omega arith in
-    ap accepted_of (get_d_map setting_of house_list (number - 1) _ (parameters 0 0 0 0 0) i)
+    ap Ok (get_d_map setting_of house_list (number - 1) _ (parameters 0 0 0 0 0) i)
     ∙ sym (checked_accepted (row (number - 1)) (house_accepted (number - 1) i))
     ∙ sym (listed_inside number h)

@@ -24,12 +24,6 @@ overflow_mul-power c =
     let i = c.loop-p in
     omega (arith, ap (λ (x : ℕ). x * s.args.b) i.invariant.1, pow_next s.args.b i.p, pow-le-pow_right {n = s.args.b} (omega arith) {i = i.p + 1} {j = s.args.k} (omega arith))
 
-pub overflow_add-p : goal.overflow_add-p
-overflow_add-p c = omega arith
-
-pub loop-p-smaller : goal.loop-p-smaller
-loop-p-smaller c = omega arith
-
 pub loop-p-preserved : goal.loop-p-preserved
 loop-p-preserved c =
     let s = c.before.before in

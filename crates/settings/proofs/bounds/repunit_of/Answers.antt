@@ -12,7 +12,7 @@ small : (c : In-loop-p) → c.loop-p.r * c.args.b + 1 < 2 ^ 64
 small c =
     let s = c.before.before in
     let b = s.args.b in
-    let p = c.loop-p.p in
+    let p = c.loop-p._p in
     let r = c.loop-p.r in
     omega (arith, repunit-fits b (p + 1) (r * b + 1) s.requires.0 (repunit-more b p r s.requires.0 c.loop-p.invariant.1), pow-le-pow_right {n = b} (omega arith) {i = p + 1} {j = s.args.k} (omega arith))
 
@@ -25,18 +25,12 @@ overflow_mul-r c = omega (arith, small c)
 pub overflow_add-r : goal.overflow_add-r
 overflow_add-r c = omega (arith, small c)
 
-pub overflow_add-p : goal.overflow_add-p
-overflow_add-p c = omega arith
-
-pub loop-p-smaller : goal.loop-p-smaller
-loop-p-smaller c = omega arith
-
 pub loop-p-preserved : goal.loop-p-preserved
 loop-p-preserved c =
     let s = c.before.before in
-    (omega arith, repunit-more s.args.b c.loop-p.p c.loop-p.r s.requires.0 c.loop-p.invariant.1)
+    (omega arith, repunit-more s.args.b c.loop-p._p c.loop-p.r s.requires.0 c.loop-p.invariant.1)
 
 pub returns : goal.returns
 returns c =
-    let e : c.loop-p.p ≡ c.args.k = omega arith in
+    let e : c.loop-p._p ≡ c.args.k = omega arith in
     c.loop-p.invariant.1 ∙ ap (λ (x : ℕ). c.args.b ^ x) e

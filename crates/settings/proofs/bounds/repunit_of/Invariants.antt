@@ -4,7 +4,4 @@ use Prim.Native.Nat.{◌≤◌, ◌-◌, ◌+◌, ◌*◌, ◌^◌}
 use Rattle.settings.proofs.bounds.repunit_of.Given as goal
 
 abbrev pub invariant-loop-p : goal.invariant-loop-p
-invariant-loop-p l = (l.p ≤ l.k) × (l.r * (l.b - 1) + 1 ≡ l.b ^ l.p)
-
-abbrev pub decreases-loop-p : goal.decreases-loop-p
-decreases-loop-p l = l.k - l.p
+invariant-loop-p l = (l._p ≤ l.k) × (l.r * (l.b - 1) + 1 ≡ l.b ^ l._p)

@@ -1,5 +1,4 @@
 -- `small_fold::packing::load` meets its contract: the first k numbers are those of row r.
-use Prim.Native.Nat.{◌-◌}
 use lib.IntN.{pos}
 use Rattle.integers.proofs.Lists.{Filled}
 use Rattle.matrices.specs.Tables.{signed}
@@ -7,6 +6,3 @@ use Rattle.small_fold.proofs.packing.load.Given as goal
 
 abbrev pub invariant-loop-k : goal.invariant-loop-k
 invariant-loop-k l = Filled l.n (signed l.n l.s l.r) (pos 0) l.k l.p
-
-abbrev pub decreases-loop-k : goal.decreases-loop-k
-decreases-loop-k l = l.n - l.k

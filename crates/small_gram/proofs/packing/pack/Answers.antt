@@ -25,9 +25,6 @@ loop-k-preserved c =
     let e : (l.loop-k.k + 1) * n ≡ l.loop-k.k * n + n = omega (arith, add-mul l.loop-k.k 1 n, one-mul n) in
     (omega arith, c.pack_row.auto.p ∙ l.loop-k.invariant.1, rw e c.pack_row.ensures)
 
-pub shape_of-p : goal.shape_of-p
-shape_of-p c = c.loop-k.invariant.1
-
 pub returns : goal.returns
 returns c =
     let e : c.loop-k.k ≡ 32 = omega arith in

@@ -1,6 +1,6 @@
 -- `small_gram::packing::pack` meets its contract: the first k rows stand in p by columns.
 use mathlib.Core.Path.{◌≡◌}
-use Prim.Native.Nat.{◌+◌, ◌-◌, ◌*◌, ◌≤◌}
+use Prim.Native.Nat.{◌+◌, ◌*◌, ◌≤◌}
 use lib.ListN.{length}
 use Rattle.matrices.specs.Tables.{signed}
 use Rattle.small_rows.specs.Columns.{Columns}
@@ -8,6 +8,3 @@ use Rattle.small_gram.proofs.packing.pack.Given as goal
 
 abbrev pub invariant-loop-k : goal.invariant-loop-k
 invariant-loop-k l = (l.k ≤ 32) × (length l.p ≡ length l.initial.p) × Columns 32767 32 l.n (λ i j. signed l.n l.s (l.base + i) j) (l.k * l.n) l.p
-
-abbrev pub decreases-loop-k : goal.decreases-loop-k
-decreases-loop-k l = 32 - l.k

@@ -1,8 +1,7 @@
 -- `small_gram::packing::pack_row` meets its contract: row base + k of s stands at place k of the first c columns.
-use mathlib.Core.Path.{◌≡◌, refl, ◌∙◌}
+use mathlib.Core.Path.{◌≡◌, ◌∙◌}
 use Prim.Native.Nat.{◌+◌, ◌*◌, ◌≤◌}
 use native.Mathlib.Omega.{arith}
-use native.Mathlib.Nat.{add-zero}
 use lib.IntN.{pos, nat_abs}
 use lib.ListN.{get_or, length-set}
 use mir.Syntax.{w16}
@@ -11,27 +10,6 @@ use Rattle.matrices.specs.Tables.{signed}
 use Rattle.small_rows.proofs.Columns.{columns-more}
 use Rattle.small_gram.proofs.packing.pack_row.Goals as goal
 
-pub overflow_add-r : goal.overflow_add-r
-overflow_add-r c = omega arith
-
-pub loop-c-init : goal.loop-c-init
-loop-c-init c = (omega arith, refl, rw (add-zero (c.args.k * c.args.n)) c.requires.columns)
-
-pub fetch-x-requires : goal.fetch-x-requires
-fetch-x-requires c = (c.requires.small_matrix.0, c.loop-c-test.true)
-
-pub overflow_mul-x : goal.overflow_mul-x
-overflow_mul-x c = omega arith
-
-pub overflow_add-x : goal.overflow_add-x
-overflow_add-x c = omega arith
-
-pub offset_bounds-p-c : goal.offset_bounds-p-c
-offset_bounds-p-c c = omega arith
-
-pub bounds-p-c : goal.bounds-p-c
-bounds-p-c c = omega arith
-
 pub loop-c-preserved : goal.loop-c-preserved
 loop-c-preserved c =
     let l = c in
@@ -39,15 +17,12 @@ loop-c-preserved c =
     let a = s.args in
     let at = (a.base + a.k) * a.n + l.loop-c.c in
     let small : nat_abs (get_or a.s.now at (pos 0)) ≤ 32767 = s.requires.small_matrix.0.small at in
-    let h : Held w16 c.fetch-x.result (get_or a.s.now at (pos 0)) = held w16 c.fetch-x.ensures (omega arith) in (
+    let h : Held w16 c.fetch.result (get_or a.s.now at (pos 0)) = held w16 c.fetch.ensures (omega arith) in (
       omega arith,
       length-set l.loop-c.p (l.loop-c.c * 32 + a.k) _ ∙ l.loop-c.invariant.1,
       columns-more 32767 32 a.n (λ i j. signed a.n a.s.now (a.base + i) j) l.loop-c.p a.k l.loop-c.c _
           s.requires.small_matrix.2 c.loop-c-test.true (omega arith) (rw h.read small) h.read l.loop-c.invariant.2,
     )
-
-pub shape_of-p : goal.shape_of-p
-shape_of-p c = c.loop-c.invariant.1
 
 pub returns : goal.returns
 returns c =

@@ -7,6 +7,3 @@ use Rattle.word_products.proofs.multiples.add_four_rows.Given as goal
 
 abbrev pub invariant-loop-j : goal.invariant-loop-j
 invariant-loop-j l = Added modulo (row_times 4 l.x (signed l.cols l.y)) l.j (length l.initial.row) l.initial.row l.row
-
-abbrev pub decreases-loop-j : goal.decreases-loop-j
-decreases-loop-j l = l.j

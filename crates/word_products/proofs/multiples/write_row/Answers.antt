@@ -1,7 +1,7 @@
 -- `word_products::multiples::write_row` meets its contract: the first j words of `row` are those of x times y.
 use mathlib.Core.Path.{◌≡◌, ◌∙◌, ap, refl}
 use mathlib.Core.List.{List}
-use Prim.Native.Nat.{ℕ, ◌+◌, ◌<◌}
+use Prim.Native.Nat.{ℕ, ◌+◌, ◌-◌, ◌*◌, ◌<◌}
 use native.Mathlib.Omega.{arith}
 use lib.IntN.{ℤ, pos, ◌+ℤ◌, ◌*ℤ◌, +ℤ_idl}
 use lib.ListN.{length, get_or, set}
@@ -21,30 +21,31 @@ write-more x y j n row h fits e w =
     filled_more n (multiple x y) 0 j row _ h
     (read-on 0 x (get_or y j (pos 0)) fits e ∙ ap word (+ℤ_idl (pos x *ℤ get_or y j (pos 0)))) w
 
-pub loop-j-init : goal.loop-j-init
-loop-j-init c = filled_none _ _ _ _ refl
+pub loop-pair-init : goal.loop-pair-init
+loop-pair-init c = filled_none _ _ _ _ refl
 
-pub loop-j-preserved : goal.loop-j-preserved
-loop-j-preserved c =
+pub loop-pair-preserved : goal.loop-pair-preserved
+loop-pair-preserved c =
     let a = c.args in
-    let j = c.loop-j.j in
+    let j = 2 * c.loop-pair.pair in
     let n = length a.row.now in
-    let one = write-more a.x a.y.now j n c.loop-j.row (omega arith)
-    (record { sfits = omega arith }) c.add_signed_product.ensures c.loop-j.invariant in
+    let one = write-more a.x a.y.now j n c.loop-pair.row (omega arith)
+    (record { sfits = omega arith }) c.add_signed_product.ensures c.loop-pair.invariant in
     let two = write-more a.x a.y.now (j + 1) n _ (omega arith)
-    (record { sfits = omega arith }) c.add_signed_product-in-loop-j.ensures one in
-    let next : j + 2 ≡ j + 1 + 1 = omega arith in
+    (record { sfits = omega arith }) c.add_signed_product-in-loop-pair.ensures one in
+    let next : 2 * (c.loop-pair.pair + 1) ≡ j + 1 + 1 = omega arith in
     rw next two
 
-pub returns-then-j-n : goal.returns-then-j-n
-returns-then-j-n c =
+pub returns-then-n-eq1 : goal.returns-then-n-eq1
+returns-then-n-eq1 c =
     let a = c.args in
     let n = length a.row.now in
-    let last = write-more a.x a.y.now c.loop-j.j n c.loop-j.row (omega arith)
-    (record { sfits = omega arith }) c.add_signed_product-then-j-n.ensures c.loop-j.invariant in
-    filled-all n (multiple a.x a.y.now) 0 (c.loop-j.j + 1) _ (omega arith) last
+    let end : 2 * c.loop-pair.pair ≡ n - 1 = omega arith in
+    let last = write-more a.x a.y.now (n - 1) n c.loop-pair.row (omega arith)
+    (record { sfits = omega arith }) c.add_signed_product-then-n-eq1.ensures (rw end at c.loop-pair.invariant) in
+    filled-all n (multiple a.x a.y.now) 0 (n - 1 + 1) _ (omega arith) last
 
-pub returns-else-j-n : goal.returns-else-j-n
-returns-else-j-n c =
+pub returns-else-n-eq1 : goal.returns-else-n-eq1
+returns-else-n-eq1 c =
     let a = c.args in
-    filled-all (length a.row.now) (multiple a.x a.y.now) 0 c.loop-j.j c.loop-j.row (omega arith) c.loop-j.invariant
+    filled-all (length a.row.now) (multiple a.x a.y.now) 0 (2 * c.loop-pair.pair) c.loop-pair.row (omega arith) c.loop-pair.invariant

@@ -1,6 +1,6 @@
 -- `word_products::multiples::write_row` meets its contract: the first j words of `row` are those of x times y.
 use mathlib.Core.List.{List}
-use Prim.Native.Nat.{ℕ, ◌-◌}
+use Prim.Native.Nat.{ℕ, ◌*◌}
 use lib.IntN.{ℤ, pos, ◌*ℤ◌}
 use lib.ListN.{length, get_or}
 use Rattle.integers.specs.Residues.{word}
@@ -11,8 +11,5 @@ use Rattle.word_products.proofs.multiples.write_row.Given as goal
 abbrev pub multiple : ℕ → List ℤ → ℕ → ℕ
 multiple x y j = word (pos x *ℤ get_or y j (pos 0))
 
-abbrev pub invariant-loop-j : goal.invariant-loop-j
-invariant-loop-j l = Filled (length l.initial.row) (multiple l.x l.y) 0 l.j l.row
-
-abbrev pub decreases-loop-j : goal.decreases-loop-j
-decreases-loop-j l = length l.initial.row - l.j
+abbrev pub invariant-loop-pair : goal.invariant-loop-pair
+invariant-loop-pair l = Filled (length l.initial.row) (multiple l.x l.y) 0 (2 * l.pair) l.row
