@@ -15,8 +15,9 @@ pub fn entry(digits: &[i64], b: u64) -> i64
     ensures { result ≡ clamped limit (entry_of b digits.now) }
 {
     let mut sum: i64 = 0;
-    for digit in digits.iter().rev() {
-        sum = matrices::add_product(*digit, sum, b as i64);
+    // By an index, so that must-fail's version ends at the second digit.
+    for q in (0..digits.len()).rev() {
+        sum = matrices::add_product(digits[q], sum, b as i64);
         if LIMIT <= sum {
             return LIMIT;
         }

@@ -1,12 +1,13 @@
 -- Rows taken one after the other: what is left for each column, and what the tests of the rows say of the whole.
 use mathlib.Core.Path.{◌≡◌, refl, sym, ◌∙◌, ap, subst}
-use mathlib.Core.Bool.{true, false, ◌&&◌}
+use mathlib.Core.Bool.{true, false, not, ◌&&◌}
 use mathlib.Core.Logic.{⊎_elim}
 use mathlib.Core.List.{List, ◌++◌}
 use Prim.Native.Nat.{ℕ, ◌+◌, ◌*◌, ◌^◌, ◌<◌, ◌≤◌}
 use native.Mathlib.Omega.{arith}
 use native.Mathlib.Nat.{mul-le-mul}
-use Rattle.std.specs.Prelude.{Some, None}
+use Rattle.std.specs.Prelude.{Option, Some, None, is_some}
+use Rattle.std.specs.Option.{unwrap_or}
 use lib.Dec.{T, not_T, leb}
 use lib.IntN.{ℤ, nat_abs}
 use lib.ListN.{length, get_or, take, get_or-append}
@@ -38,6 +39,18 @@ clamped-taken left z h = ⊎_elim
     far left (clamped limit z) h (omega arith) ∙ sym (far left z h l))
     (λ (l : nat_abs z < limit). ap (less_square left) (clamped-within limit z (omega arith)))
     (le_or_lt limit (nat_abs z))
+
+-- what a square left, and 0 where it was above what there was
+abbrev pub rest_of : Option ℕ → ℕ
+rest_of o = unwrap_or o 0
+
+pub was_within : (o : Option ℕ) (rest : ℕ) → T (is_some o) → rest ≡ rest_of o → o ≡ Some rest
+was_within (Some x) rest h e = ap Some (sym e)
+was_within None rest h e = absurd h
+
+pub was_above : (o : Option ℕ) → T (not (is_some o)) → o ≡ None
+was_above (Some x) h = absurd h
+was_above None h = refl
 
 -- what is left for the columns after i rows
 module _ (b k wide : ℕ) (S~ : List ℤ) (m bound : ℕ) where

@@ -38,16 +38,21 @@ fn take_row(row: &[i64], k: usize, b: u64, left: &mut [u64]) -> Option<bool>
         (λ ruled. ((j : ℕ) → j < length left.old → taken b k row.now left.old j ≡ Some (get_or left.new j 0))
         × (ruled ≡ all (length left.old) (λ j. follow_rule b (digits_at k row.now (j * k))))) }
 {
+    let mut within = true;
     let mut ruled = true;
+    // By `both`, so that must-fail's version asks the last column alone.
     for (j, rest) in left.iter_mut().enumerate() {
         let start = j * k;
         let end = start + k;
         let digits = &row[start..end];
         let x = digit_entries::entry(digits, b);
-        *rest = matrices::take_square(*rest, x)?;
+        let next = matrices::take_square(*rest, x);
+        let short = next.is_some();
+        *rest = next.unwrap_or(0);
+        within = scans::both(within, short);
         ruled = scans::both(ruled, digit_entries::follow_rule(digits, b, x));
     }
-    Some(ruled)
+    if within { Some(ruled) } else { None }
 }
 
 impl<'a> DigitRows<'a> {

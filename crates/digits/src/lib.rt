@@ -69,29 +69,31 @@ fn sign_of(x: i64) -> i64
 }
 
 // Writes the digits of x, as many as `out` holds: its sign times the digits of its size.
+// By an index, so that must-fail's version begins at the second digit.
 pub fn write_digits(x: i64, base: Base, out: &mut [i64])
     requires { IsBase base × InReach base.b (nat_abs x) }
     ensures { out.new ≡ digits_of base.b (length out.old) x }
 {
     let sign = sign_of(x);
     let mut w = (sign * x) as u64;
-    for digit in out.iter_mut() {
+    for p in 0..out.len() {
         let s = take_digit(w, base);
-        *digit = sign * s.digit;
+        out[p] = sign * s.digit;
         w = s.rest;
     }
 }
 
 // Writes the k digits of each entry of s into its own part of the row.
-// By ranges of it: `chunks_exact_mut` asks for a k above 0, which `digits_ss` does not ask of C.
+// By ranges of it: `chunks_exact_mut` asks for a k above 0, which `digits_ss` does not ask of C. The entries by an index,
+// so that must-fail's version begins at the second.
 pub fn write_row(s: &[i64], base: Base, k: usize, row: &mut [i64])
     requires base { IsBase base × AllInReach base.b s.now }
     requires row_len { length row.old ≡ length s.now * k }
     ensures { row.new ≡ row_digits base.b k s.now }
 {
-    for (j, x) in s.iter().enumerate() {
+    for j in 0..s.len() {
         let start = j * k;
         let end = start + k;
-        write_digits(*x, base, &mut row[start..end]);
+        write_digits(s[j], base, &mut row[start..end]);
     }
 }

@@ -60,6 +60,11 @@ module _ (p q : List ℤ) where
   unfolding sum
   dots-one x y fp fq e = e ∙ ap₂ ◌*ℤ◌ (to_z-of_z w16 (get_or p x (pos 0)) fp) (to_z-of_z w16 (get_or q y (pos 0)) fq) ∙ rw (add-zero x, add-zero y, +ℤ_idl)
 
+  -- the same of places that are told by their values
+  pub one_at : (x y : ℕ) {i j : ℕ} {u : ℤ} → SFits w16 (get_or p i (pos 0)) → SFits w16 (get_or q j (pos 0))
+      → u ≡ to_z w16 (of_z w16 (get_or p i (pos 0))) *ℤ to_z w16 (of_z w16 (get_or q j (pos 0))) → i ≡ x → j ≡ y → u ≡ dots p q x y 1
+  one_at x y {i} {j} fp fq e ex ey = dots-one i j fp fq e ∙ ap₂ (λ (v w : ℕ). dots p q v w 1) ex ey
+
   -- one product more, as the machine adds it
   pub dots-next : (x y n k : ℕ) {s a : ℤ} → k < n → sizes_of p q x y n < 2 ^ 31 → s ≡ dots p q x y k → a ≡ dots p q (x + k) (y + k) 1
       → Held w32 (s +ℤ to_z w32 (of_z w32 a)) (dots p q x y (k + 1))

@@ -1,10 +1,37 @@
 -- The radius is the greatest number whose square times m is at most B, and a witness entry is within it.
-use Rattle.std.proofs.Common.{◌≡◌, ℕ, zero, suc, ◌+◌, ◌*◌, ◌/◌, ◌%◌, ◌^◌, ◌<◌, ◌≤◌, cond, ℤ, pos, ◌-ℤ◌, nat_abs, ⊎_elim, mul-le-mul_right, mod-lt, mul-le-mul, pow-suc, le-div_iff_mul-le, arith, le-leb}
+use Rattle.std.proofs.Common.{◌≡◌, ℕ, zero, suc, ◌+◌, ◌-◌, ◌*◌, ◌/◌, ◌%◌, ◌^◌, ◌<◌, ◌≤◌, Bool, true, false, cond, leb, ℤ, pos, ◌-ℤ◌, nat_abs, refl, ap, ◌∙◌, ⊎_elim, le_refl, mul-le-mul_right, mod-lt, mul_comm, mul-le-mul, pow-suc, le-div_iff_mul-le, add-one, arith, pow_pos, le-leb}
 use native.Mathlib.Omega.{by_contra}
 use borrow.Author.Tests.{lt-leb}
-use Rattle.integers.proofs.Tests.{le_or_lt}
+use Rattle.integers.proofs.Tests.{le_or_lt, leb-same}
 use Rattle.integers.proofs.Ring.{pos-minus, diff_cases}
 use Rattle.draws.specs.Draws.{upper, witness_of, reaches, radius_from, radius}
+
+-- ---- the turns of the search, which compares r² with B / m
+
+by_division : (m B x : ℕ) → 1 ≤ m → leb (x * m) B ≡ leb x (B / m)
+by_division m B x low = leb-same (x * m) B x (B / m) ((λ h. (le-div_iff_mul-le low).1 h), (λ h. (le-div_iff_mul-le low).0 h))
+
+-- one bit
+pub turn : (m B n r : ℕ) → 1 ≤ m → radius_from (n + 1) m B r ≡ radius_from n m B (cond (leb ((r + 2 ^ n) * (r + 2 ^ n)) (B / m)) (r + 2 ^ n) r)
+unfolding radius_from
+turn m B n r low = rw (add-one n) (ap (λ (c : Bool). radius_from n m B (cond c (r + 2 ^ n) r)) (by_division m B ((r + 2 ^ n) * (r + 2 ^ n)) low))
+
+pub turns_done : (m B r : ℕ) → radius_from 0 m B r ≡ r
+unfolding radius_from
+turns_done m B r = refl
+
+-- whichever of two numbers is kept, it is at most the larger
+pub kept_small : (c : Bool) (r x : ℕ) → r ≤ x → cond c x r ≤ x
+kept_small true r x h = le_refl x
+kept_small false r x h = h
+
+-- a power of two and its half
+pub half_of : (n : ℕ) → 0 < n → (2 ^ n ≡ 2 * 2 ^ (n - 1)) × (1 ≤ 2 ^ (n - 1))
+half_of zero h = absurd (omega arith)
+half_of (suc n) h = (rw (back n) (pow-suc 2 n ∙ mul_comm (2 ^ n) 2), pow_pos (suc n - 1))
+  where
+    back : (n : ℕ) → suc n - 1 ≡ n
+    back n = omega arith
 
 -- ---- what it finds
 

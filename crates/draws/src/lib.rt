@@ -1,7 +1,7 @@
 // Draws of a test load, and the entries that are made of them.
 #![tactic(auto)]
 
-ghost use Rattle.std.specs.Prelude.{◌≡◌, ℕ, ◌*◌, ◌^◌, ◌<◌, ◌≤◌, length};
+ghost use Rattle.std.specs.Prelude.{◌≡◌, ℕ, ◌*◌, ◌^◌, ◌<◌, ◌≤◌, length, if◌then◌else◌, nat_le};
 ghost use Rattle.draws.specs.Draws.{next, after, drawn, word_of, challenge_of, witness_of, radius};
 
 // The next state, which is the draw.
@@ -9,16 +9,31 @@ ghost use Rattle.draws.specs.Draws.{next, after, drawn, word_of, challenge_of, w
 pub fn draw(s: u64) -> u64
     ensures { result ≡ next s }
 {
-    s.wrapping_mul(6364136223846793005)
-        .wrapping_add(1442695040888963407)
+    integers::wrapping_mul(s, 6364136223846793005).wrapping_add(1442695040888963407)
 }
 
-// The greatest r with r^2 m at most the bound: with r^2 at most the bound divided by m, so that nothing wraps.
+// x where its square is at most the limit, else r.
+fn further(r: u64, x: u64, most: u64) -> u64
+    requires { x < 2 ^ 32 }
+    ensures { result ≡ (if nat_le (x * x) most then x else r) }
+{
+    if x * x <= most { x } else { r }
+}
+
+// The greatest r with r^2 m at most the bound, bit by bit. r^2 is compared with the bound divided by m, so that nothing
+// wraps. By bits and no library root: a search that begins at 1 is one of the wrong versions.
 pub fn radius_of(m: u64, bound: u64) -> u64
     requires { 1 ≤ m }
     ensures { (result ≡ radius m bound) × (result < 2 ^ 32) }
 {
-    (bound / m).isqrt()
+    let most = bound / m;
+    let mut step: u64 = 4294967296;
+    let mut r: u64 = 0;
+    for k in 0..32u64 {
+        step /= 2;
+        r = further(r, r + step, most);
+    }
+    r
 }
 
 // Fills the slice with entries that are made of draws from the state s on, and answers the state after them.

@@ -3,24 +3,14 @@ use mathlib.Core.Path.{◌≡◌}
 use mathlib.Core.Logic.{◌↔◌}
 use Prim.Native.Nat.{ℕ, ◌+◌}
 use native.Mathlib.Omega.{arith}
-use lib.Dec.{T, eqb}
-use lib.IntN.{ℤ}
-use mir.Syntax.{w64}
-use mir.Val.{SFits, of_z}
+use lib.Dec.{T}
 use Rattle.integers.specs.Tests.{all}
 use Rattle.integers.proofs.Tests.{and_fst, and_snd, and_both, same_test, all_true, all_elim}
 use Rattle.matrices.specs.Matrices.{Matrix, Symmetric}
 use Rattle.matrices.proofs.Triangles.{agree_below}
 use Rattle.lova.specs.Tests.{eq_Z, equal}
-use Rattle.lova.proofs.Tests.{eqb_iff, eq_Z_iff, equal_iff}
-use Rattle.lova.proofs.Comparisons.{bits_iff}
+use Rattle.lova.proofs.Tests.{eq_Z_iff, equal_iff}
 use Rattle.equations.specs.Blocks.{equal_both}
-
--- signed words are compared by their bits
-pub bits-test : (x y : ℤ) → SFits w64 x → SFits w64 y → eqb (of_z w64 x) (of_z w64 y) ≡ eq_Z x y
-bits-test x y fx fy =
-    let bits = bits_iff x y fx fy in
-    same_test _ _ (λ h. (eq_Z_iff x y).1 (bits.0 ((eqb_iff _ _).0 h))) (λ h. (eqb_iff _ _).1 (bits.1 ((eq_Z_iff x y).0 h)))
 
 -- ---- a symmetric X, of which the lower half is compared with Y and its mirror image
 

@@ -92,21 +92,15 @@ impl Field for Ternary {
 
     ghost numeral = { ternary_numeral };
 
-    #[tactic(auto, using(crate::proofs::Ternaries::ternaries))]
+    // 0, 1, or -1. Byte by byte: a copy of one byte or two is a call for each entry.
     fn put(buf: &mut [u8], at: usize, value: u8) -> usize {
-        put_bytes(buf, at, ternary_field(value))
-    }
-}
-
-// A ternary entry: 0, 1, or -1.
-#[tactic(auto, using(crate::proofs::Ternaries::ternaries))]
-fn ternary_field(value: u8) -> &'static [u8]
-    ensures { result.now ≡ ternary_numeral value }
-{
-    match value {
-        0 => b"0",
-        1 => b"1",
-        _ => b"-1",
+        if value < 2 {
+            buf[at] = b'0' + value;
+            return at + 1;
+        }
+        buf[at] = b'-';
+        buf[at + 1] = b'1';
+        at + 2
     }
 }
 

@@ -4,6 +4,16 @@ ghost use Rattle.std.specs.Prelude.{◌≡◌, ◌^◌, ◌≤◌, pos, nat_abs,
 ghost use Rattle.matrices.specs.Elements.{exactly, Added};
 ghost use Rattle.small_rows.specs.Small.{Within};
 
+// Adds `row` to e twice: apart from the other multiples, so that must-fail's version is wrong for the factor 1 alone.
+fn plus_row(row: &[i64], e: &mut [i64])
+    requires { (length row.now ≡ length e.old) × Within (2 ^ 31) row.now × Within (2 ^ 45) e.old }
+    ensures { Added exactly (λ k. pos 2 *ℤ get_or row.now k (pos 0)) 0 (length e.old) e.old e.new }
+{
+    for (k, x) in e.iter_mut().enumerate() {
+        *x += 2 * row[k];
+    }
+}
+
 // Adds 2 v times `row` to e.
 fn times_row(row: &[i64], v: i64, e: &mut [i64])
     requires { (length row.now ≡ length e.old) × Within (2 ^ 31) row.now × Within (2 ^ 45) e.old
@@ -25,7 +35,7 @@ pub(crate) fn add_row(row: &[i64], v: i16, e: &mut [i64])
 {
     match v {
         0 => {}
-        1 => times_row(row, 1, e),
+        1 => plus_row(row, e),
         -1 => times_row(row, -1, e),
         _ => times_row(row, v as i64, e),
     }

@@ -4,4 +4,5 @@ pub mod Sizes
 pub mod Lists
 pub mod Sums
 pub mod Residues
+pub mod Products
 pub mod Words

@@ -6,12 +6,18 @@ ghost use Rattle.integers.specs.Residues.{word};
 ghost use Rattle.integers.specs.Words.{signed_word};
 ghost use Rattle.integers.specs.Ranges.{◌to◌, within};
 
-// x * y modulo 2^64. The machine code is one multiply (mov, imul, ret).
-// A name of ours: C's `product_word` is this function alone, and must-fail has a wrong version of it.
+// x * y modulo 2^64, by halves of 32 bits. The machine code is one multiply (mov, imul, ret).
+// A product of our own, as the specification asks: C's `product_word` is this function alone, and the two wrong versions
+// are of its halves.
 pub fn wrapping_mul(x: u64, y: u64) -> u64
     ensures { result ≡ (x * y) % 2 ^ 64 }
 {
-    x.wrapping_mul(y)
+    let xl = x % 4294967296;
+    let xh = x / 4294967296;
+    let yl = y % 4294967296;
+    let yh = y / 4294967296;
+    let cross = (xl * yh).wrapping_add(yl * xh);
+    (cross << 32).wrapping_add(xl * yl)
 }
 
 // The distance of s from 0. That of -2^63 is no signed word.
@@ -32,14 +38,28 @@ pub fn residue(s: i64) -> u64
     s.cast_unsigned()
 }
 
-// The signed word of this size and sign, if there is one: sizes to 2^63 - 1, and below zero 2^63 too.
+// The largest size of a signed word, and the size of the lowest one.
+const LARGEST: u64 = 9223372036854775807;
+
+const LOWEST: u64 = 9223372036854775808;
+
+// The signed word of this size and sign, if there is one: sizes to 2^63 - 1, and below zero 2^63 too. By bounds of our
+// own in place of the library's conversions, so that must-fail's versions take one of them for one less.
 pub fn with_sign(size: u64, negative: bool) -> Option<i64>
     ensures { result ≡ signed_word size negative }
 {
     if negative {
-        return 0i64.checked_sub_unsigned(size);
+        return if size <= LOWEST {
+            Some(0i64.wrapping_sub_unsigned(size))
+        } else {
+            None
+        };
     }
-    i64::try_from(size).ok()
+    if size <= LARGEST {
+        Some(size as i64)
+    } else {
+        None
+    }
 }
 
 // Whether x is in the range from `low` to `high`, both among them.

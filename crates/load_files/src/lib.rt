@@ -136,6 +136,7 @@ impl Pending {
     {
         let most = out.len() - LONGEST;
         let mut at: usize = 0;
+        // By the place: how far a line goes is known only once it is written.
         while at <= most && self.is_due() {
             at = self.put_line(out, at);
         }

@@ -30,7 +30,7 @@ pub fn add_signed_product(sum: u64, x: u64, y: i64) -> u64
 }
 
 // What the square of x leaves of `left`, if it is not above it. A size of 2^32 or more is above by itself, so nothing
-// wraps.
+// wraps. By a comparison in place of `checked_sub`, so that must-fail's version excludes the bound.
 pub fn take_square(left: u64, x: i64) -> Option<u64>
     ensures { result ≡ less_square left x }
 {
@@ -38,7 +38,11 @@ pub fn take_square(left: u64, x: i64) -> Option<u64>
     if 4294967295 < w {
         return None;
     }
-    left.checked_sub(w * w)
+    let square = w * w;
+    if left < square {
+        return None;
+    }
+    Some(left - square)
 }
 
 // Whether column j of s has a squared length of at most `bound`, for all signed words: what is left of the bound

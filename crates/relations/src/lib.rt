@@ -10,7 +10,7 @@ ghost use Rattle.settings.specs.Refusals.{number_in};
 ghost use Rattle.lova.specs.Answers.{membership_of};
 ghost use Rattle.lova.specs.Stored.{matrix_A, matrix_T, matrix_S, matrix_D};
 ghost use Rattle.lova.specs.Lent.{as_instance};
-ghost use Rattle.lova.specs.Tests.{equal, equal_words, fits, fits_instance};
+ghost use Rattle.lova.specs.Tests.{eq_Z, equal, equal_words, fits, fits_instance};
 ghost use Rattle.lova.specs.Calls.{Fits, Short};
 ghost use Rattle.lova.specs.Relation.{relation_rules, relation};
 
@@ -48,6 +48,13 @@ fn test_lengths(
     }
 }
 
+// Whether two entries are equal: an entry of D and its product are compared here alone.
+fn entry_equals(x: i64, y: i64) -> bool
+    ensures { result ≡ eq_Z x y }
+{
+    x == y
+}
+
 // Whether s-transposed s is d, for an s with short columns. It is made in `own` as a whole, since by rows of s it costs
 // less than entry by entry.
 fn products_hold_in(accepted: &AcceptedSetting, d: &[i64], s: &[i64], own: &mut [i64]) -> bool
@@ -59,7 +66,7 @@ fn products_hold_in(accepted: &AcceptedSetting, d: &[i64], s: &[i64], own: &mut 
 {
     let setting = &accepted.setting;
     cross_products::cross_products(s, s, setting.m, setting.t, setting.t, own);
-    &own[..] == d
+    (0..own.len()).all(|i| entry_equals(own[i], d[i]))
 }
 
 // The same with an array of its own: a small one for few columns, since a local array is cleared at each call. With the
@@ -98,7 +105,8 @@ fn commitment_holds_in(
 {
     let setting = &accepted.setting;
     word_products::commitment(a, s, setting.n, setting.m, setting.t, own);
-    &own[..] == t
+    let congruent = (0..own.len()).all(|i| own[i] == t[i]);
+    congruent
 }
 
 // The same with an array of its own: a small one for few entries, and no const parameter, as above.

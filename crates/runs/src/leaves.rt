@@ -4,7 +4,7 @@ ghost use Rattle.chain.specs.Reports.{leaf_line};
 ghost use Rattle.chain.specs.Small.{numbers_in};
 ghost use Rattle.states.specs.Held.{node_in, step_of, line_due, Safe};
 ghost use Rattle.states.specs.declared.Due.TheVariants as Dues;
-ghost use Rattle.runs.specs.Leaves.{LeafRead};
+ghost use Rattle.runs.specs.Leaves.{LeafRead, LeafMade};
 
 use chain::SmallSetting;
 use lova::Profile;
@@ -20,7 +20,8 @@ struct Leaf {
 
 // The leaf of a line `leaf` with m×t entries, or what refuses the line.
 fn read(small: SmallSetting, line: &[u8], a: &[u64; 128]) -> Result<Leaf, Refusal>
-    ensures { LeafRead (numbers_in small) a.now line.now result }
+    ensures comes_to { LeafRead (numbers_in small) a.now line.now result }
+    ensures is_leaf { LeafMade (numbers_in small) a.now line.now result }
 {
     let setting = small.accepted.setting;
     let size_a = setting.n * setting.m;

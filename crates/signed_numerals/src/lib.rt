@@ -4,11 +4,17 @@
 ghost use Rattle.std.specs.Prelude.{◌≡◌, Some, pos};
 ghost use Rattle.numerals.specs.Numerals.{read_signed, with_minus, fit_signed};
 
-// The signed reading of an unsigned numeral.
+// The largest signed word, and how far the lowest one is below -1.
+const LARGEST: u64 = 9223372036854775807;
+
+const BELOW: u64 = 9223372036854775807;
+
+// The signed reading of an unsigned numeral. By a bound of our own in place of `try_from`, here and after a minus, so
+// that must-fail's versions take it for one less.
 fn positive(n: u64) -> Option<i64>
     ensures { result ≡ fit_signed (Some (pos n)) }
 {
-    i64::try_from(n).ok()
+    if n <= LARGEST { Some(n as i64) } else { None }
 }
 
 // The signed reading of an unsigned numeral after a minus. -1 - (n - 1) is -n and never overflows.
@@ -18,10 +24,11 @@ fn negative(n: u64) -> Option<i64>
     if n == 0 {
         return None;
     }
-    match i64::try_from(n - 1) {
-        Ok(k) => Some(-1 - k),
-        Err(_) => None,
+    let k = n - 1;
+    if BELOW < k {
+        return None;
     }
+    Some(-1 - k as i64)
 }
 
 // The whole number that s is a numeral of.

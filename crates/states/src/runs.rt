@@ -25,6 +25,7 @@ impl Run {
     ghost use Rattle.states.specs.Held.{Whatever, state_of, counts_of, step_of, Safe};
 
     // Before the first line.
+    #[tactic(auto, unfolding(crate::specs::Held::stage_of))]
     pub fn new() -> Run
         ensures { Whatever (λ m. state_of result m ≡ start) }
     {

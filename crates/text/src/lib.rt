@@ -22,11 +22,11 @@ pub fn find_tab(line: &[u8], from: usize) -> usize
 }
 
 // Whether two byte strings are equal. A name of ours: the contract says it by `same`, which callers' proofs cite, and
-// must-fail has a wrong version of it.
+// must-fail has a wrong version of it. By an index in place of `==`, so that this version reads the first byte at each.
 pub fn equal(a: &[u8], b: &[u8]) -> bool
     ensures { result ≡ same a.now b.now }
 {
-    a == b
+    a.len() == b.len() && (0..a.len()).all(|i| a[i] == b[i])
 }
 
 // Whether the line's first field is the word.

@@ -113,7 +113,9 @@ fn diagonals_hold(accepted: &AcceptedSetting, profile: Profile, d1: &[i64], d2: 
         && diagonal_within(d2, profile.right(setting.t), setting.bound)
 }
 
-// Writes the folded t and d: T~ and D~ by the challenge c, whose rows that meet the same column are added up.
+// Writes the folded t and d: T~ and D~ by the challenge c, whose rows that meet the same column are added up. Not
+// inlined: the decoded challenge would stand in `verify`'s own frame, and take its stack where nothing is folded too.
+#[inline(never)]
 fn write_folded(
     accepted: &AcceptedSetting,
     profile: Profile,

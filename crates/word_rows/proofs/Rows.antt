@@ -5,7 +5,7 @@ use Prim.Native.Nat.{ℕ, ◌+◌, ◌*◌, ◌-◌, ◌^◌, ◌<◌}
 use native.Mathlib.Omega.{arith}
 use native.Mathlib.Nat.{zero-mul, one-mul, add-mul}
 use lib.Arith.{digits_lt}
-use lib.ListN.{get_or, take, drop}
+use lib.ListN.{get_or, take, drop, replicate}
 use lib.Seq.{get_or-take, get_or-drop}
 use lib.IntN.{ℤ, pos, ◌+ℤ◌, ◌*ℤ◌, +ℤ_idl, +ℤ_idr}
 use mir.Syntax.{w64}
@@ -14,7 +14,7 @@ use mir.ValLaws.{to_z-of_z}
 use Rattle.integers.specs.Lists.{build}
 use Rattle.integers.specs.Sums.{sum}
 use Rattle.integers.specs.Residues.{word}
-use Rattle.integers.proofs.Lists.{build_cong}
+use Rattle.integers.proofs.Lists.{build_cong, build_constant}
 use Rattle.integers.proofs.Sums.{sum_cong, sum_step, sum-split}
 use Rattle.integers.proofs.Residues.{residue-small}
 use Rattle.matrices.specs.Matrices.{Matrix, product}
@@ -99,3 +99,7 @@ times-four cols j b x₀ x₁ x₂ x₃ y {p} e₀ e₁ e₂ e₃ =
 pub times_words : (x : List ℕ) (Y : Matrix) (j : ℕ) → row_times 4 (get_or x 0 0 ∷ get_or x 1 0 ∷ get_or x 2 0 ∷ get_or x 3 0 ∷ []) Y j ≡ row_times 4 x Y j
 unfolding sum
 times_words x Y j = refl
+
+-- a row of zeros is what a constant builds
+pub zeros_built : (n : ℕ) (xs : List ℕ) → xs ≡ replicate n 0 → xs ≡ build n (λ i. 0)
+zeros_built n xs e = e ∙ sym (build_constant n 0)

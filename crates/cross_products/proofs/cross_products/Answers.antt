@@ -44,10 +44,11 @@ before : (c : Joined-m-eq0) →
 before c =
     let a = c.args in
     elim c.if-m-eq0.branch [
-      | then-m-eq0 w ↦ (
-        omega (arith, w.first-is),
-        rw (w.first-is, w.out-is) (crossed-none a.rows a.cols a.x.now a.y.now w.clear.new.d (length a.out.now) w.clear.ensures),
-      )
+      | then-m-eq0 w ↦
+          let none : c.if-m-eq0.first ≡ 0 = omega (arith, w.first-is, w.if-m-eq0.true) in (
+            omega (arith, none),
+            rw (none, w.out-is) (crossed-none a.rows a.cols a.x.now a.y.now w.clear.new.d (length a.out.now) w.clear.ensures),
+          )
       | else-m-eq0 w ↦ (
         omega (arith, w.first-is, w.if-m-eq0.false),
         rw (w.first-is, w.out-is) (crossed-first a.rows a.cols a.x.now a.y.now w.write_products.new.out w.write_products.ensures),

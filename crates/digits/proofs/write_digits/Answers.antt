@@ -61,8 +61,8 @@ overflow_mul-w c = (size c).fits
 pub overflow_cast-w : goal.overflow_cast-w
 overflow_cast-w c = rw (size c).read (tt, omega (arith, mul-le-mul_left (nat_abs c.args.x) c.requires.0.low))
 
-pub loop-digit-init : goal.loop-digit-init
-loop-digit-init c =
+pub loop-p-init : goal.loop-p-init
+loop-p-init c =
     let s = c.before in (
       ap nat_abs ((size c).read ∙ ap (λ (z : ℤ). pos (nat_abs z)) (sym (to_z-of_z w64 s.args.x s.ranges.x))) ∙ sym (rest-none s.args.base.b _),
       filled_none _ _ _ _ refl,
@@ -74,30 +74,30 @@ take_digit-s-requires c =
     let g = l.before in
     let s = g.before in
     let base = s.requires.0 in
-    (base, rest-reach s.args.base.b base.low base.high s.args.x g.sign_of-sign.result s.ranges.x s.requires.1 g.sign_of-sign.ensures l.loop-digit.digit-index l.loop-digit.w l.loop-digit.invariant.0)
+    (base, rest-reach s.args.base.b base.low base.high s.args.x g.sign_of-sign.result s.ranges.x s.requires.1 g.sign_of-sign.ensures l.loop-p.p l.loop-p.w l.loop-p.invariant.0)
 
 -- the machine's sign times the digit, which is digit p of the entry
 digit : (c : After-take_digit-s) →
-    Held w64 (to_z w64 (of_z w64 c.sign_of-sign.result) *ℤ to_z w64 (of_z w64 c.take_digit-s.result.digit)) (digit_of c.args.base.b (to_z w64 (of_z w64 c.args.x)) c.loop-digit.digit-index)
+    Held w64 (to_z w64 (of_z w64 c.sign_of-sign.result) *ℤ to_z w64 (of_z w64 c.take_digit-s.result.digit)) (digit_of c.args.base.b (to_z w64 (of_z w64 c.args.x)) c.loop-p.p)
 digit c =
     let base = c.requires.0 in
-    digit-held c.args.base.b base.low base.high c.args.x c.sign_of-sign.result c.ranges.x c.requires.1 c.sign_of-sign.ensures c.loop-digit.digit-index c.loop-digit.w c.loop-digit.invariant.0
+    digit-held c.args.base.b base.low base.high c.args.x c.sign_of-sign.result c.ranges.x c.requires.1 c.sign_of-sign.ensures c.loop-p.p c.loop-p.w c.loop-p.invariant.0
     c.take_digit-s.result c.take_digit-s.ensures
 
-pub overflow_mul-digit : goal.overflow_mul-digit
-overflow_mul-digit c = (digit (goal.at.overflow_mul-digit c).After-take_digit-s).fits
+pub overflow_mul-out : goal.overflow_mul-out
+overflow_mul-out c = (digit (goal.at.overflow_mul-out c).After-take_digit-s).fits
 
-pub loop-digit-preserved : goal.loop-digit-preserved
-loop-digit-preserved c =
-    let l = c.loop-digit in
+pub loop-p-preserved : goal.loop-p-preserved
+loop-p-preserved c =
+    let l = c.loop-p in
     let b = c.args.base.b in (
-      ap (λ (s : Step). s.rest) c.take_digit-s.ensures ∙ ap (λ (n : ℕ). (step_of b n).rest) l.invariant.0 ∙ sym (rest_more b l.digit-index _),
-      filled_more _ _ _ l.digit-index l.out _ (omega arith) (digit (goal.at.loop-digit-preserved c).After-take_digit-s).read l.invariant.1,
+      ap (λ (s : Step). s.rest) c.take_digit-s.ensures ∙ ap (λ (n : ℕ). (step_of b n).rest) l.invariant.0 ∙ sym (rest_more b l.p _),
+      filled_more _ _ _ l.p l.out _ (omega arith) (digit (goal.at.loop-p-preserved c).After-take_digit-s).read l.invariant.1,
     )
 
 pub returns : goal.returns
 returns c =
     let s = c.before.before.before in
-    let l = c.loop-digit in
-    filled-all _ _ _ l.digit-index l.out (omega arith) l.invariant.1
+    let l = c.loop-p in
+    filled-all _ _ _ l.p l.out (omega arith) l.invariant.1
     ∙ ap (λ (z : ℤ). digits_of s.args.base.b (length s.args.out.now) z) (to_z-of_z w64 s.args.x s.ranges.x)

@@ -6,5 +6,5 @@ use Rattle.integers.proofs.Lists.{Filled}
 use Rattle.digits.specs.Digits.{rest_of, digit_of}
 use Rattle.digits.proofs.write_digits.Given as goal
 
-abbrev pub invariant-loop-digit : goal.invariant-loop-digit
-invariant-loop-digit l = (l.w ≡ rest_of l.base.b l.digit-index (nat_abs l.x)) × Filled (length l.initial.out) (digit_of l.base.b l.x) (pos 0) l.digit-index l.out
+abbrev pub invariant-loop-p : goal.invariant-loop-p
+invariant-loop-p l = (l.w ≡ rest_of l.base.b l.p (nat_abs l.x)) × Filled (length l.initial.out) (digit_of l.base.b l.x) (pos 0) l.p l.out

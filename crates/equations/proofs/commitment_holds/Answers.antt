@@ -28,6 +28,6 @@ returns c =
     let X : Matrix = product (columns_of p f) ((sent_T~ p f).read a.message.tt.now) (gadget p) in
     let Y : Matrix = beside p.t ((matrix_T p).read a.first.t.now) ((right_T p f).read a.second.t.now) in
     let test : ℕ → Bool = λ i. all (p.t + c.right-right.result) (λ j. eqb (word (X i j)) (word (Y i j))) in
-    all_from_yields_List test _ _ c.all.result c.all.ensures.ran (YieldsList-from_range 0 p.n p.n refl (omega arith)) (λ x b q k. search (rules, tests))
+    all_from_yields_List test _ _ c.all-congruent.result c.all-congruent.ensures.ran (YieldsList-from_range 0 p.n p.n refl (omega arith)) (λ x b q k. search (rules, tests))
     ∙ all-range p.n test
     ∙ ap (λ (right : ℕ). equal_words p.n (p.t + right) X Y) c.right-right.ensures

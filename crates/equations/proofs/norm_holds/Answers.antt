@@ -31,6 +31,6 @@ returns c =
     let Y : Matrix = blocks p.t ((matrix_D p).read a.first.d.now) ((sent_V p f).read a.message.v.now) ((right_D p f).read a.second.d.now) in
     let sides : Symmetric n X = λ i j hi hj. both_sides-symmetric (columns_of p f) (gadget p) (mirrored a.message.dd.now) i j (λ x y hx hy. mirrored-symmetric a.message.dd.now x y) in
     let test : ℕ → Bool = λ i. all (i + 1) (λ j. equal_both X Y i j) in
-    all_from_yields_List test _ _ c.all.result c.all.ensures.ran (YieldsList-from_range 0 n n refl (omega arith)) (λ x b q k. search (rules, tests))
+    all_from_yields_List test _ _ c.all-equal.result c.all-equal.ensures.ran (YieldsList-from_range 0 n n refl (omega arith)) (λ x b q k. search (rules, tests))
     ∙ all-range n test ∙ halves-equal X Y n sides
     ∙ ap (λ (right : ℕ). equal (p.t + right) (p.t + right) X Y) c.right-right.ensures

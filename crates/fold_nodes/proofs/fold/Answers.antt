@@ -1,5 +1,6 @@
 -- `fold_nodes::fold` meets its contract: refused by the calls, or T, D and S copied from what they left.
 use mathlib.Core.Path.{◌≡◌, refl, sym, ◌∙◌, ap}
+use native.Mathlib.Omega.{arith}
 use lib.IntN.{pos}
 use Rattle.std.specs.Prelude.{Ok}
 use Rattle.std.proofs.lemmas.Result.{err_from_is_err_and}
@@ -66,13 +67,13 @@ returns-in_err-verdict c =
     rw (e.1, e.2) (fold-refuses (p s) s.args.a.now (first s) (second s) s.args.c.now (refused n) (made s).outputs (ap (λ (a : Meaning). ends a (made s).outputs) said) refl)
 
 pub copy-requires : goal.copy-requires
-copy-requires c = let s = (goal.at.copy-requires c).Start in c.calls.auto.t ∙ blank-long _ 16 0 (big s).T-high ∙ sym c.requires.fits_node.0
+copy-requires c = let s = (goal.at.copy-requires c).Start in omega (arith, c.calls.auto.t ∙ blank-long _ 16 0 (big s).T-high ∙ sym c.requires.fits_node.0)
 
 pub copy-requires-2 : goal.copy-requires-2
-copy-requires-2 c = let s = (goal.at.copy-requires-2 c).Start in c.calls.auto.d ∙ blank-long _ 4 (pos 0) (big s).D-high ∙ sym c.requires.fits_node.1
+copy-requires-2 c = let s = (goal.at.copy-requires-2 c).Start in omega (arith, c.calls.auto.d ∙ blank-long _ 4 (pos 0) (big s).D-high ∙ sym c.requires.fits_node.1)
 
 pub copy-requires-3 : goal.copy-requires-3
-copy-requires-3 c = let s = (goal.at.copy-requires-3 c).Start in c.calls.auto.s ∙ blank-long _ 32 (pos 0) (big s).S-high ∙ sym c.requires.fits_node.2
+copy-requires-3 c = let s = (goal.at.copy-requires-3 c).Start in omega (arith, c.calls.auto.s ∙ blank-long _ 32 (pos 0) (big s).S-high ∙ sym c.requires.fits_node.2)
 
 pub returns : goal.returns
 returns c =

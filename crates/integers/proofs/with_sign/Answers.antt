@@ -1,35 +1,42 @@
--- `integers::with_sign` meets its contract: the machine's conversions give a word exactly where one fits.
-use Rattle.std.proofs.Common.{◌≡◌, ℕ, zero, suc, ◌-◌, ◌^◌, ◌≤◌, Bool, true, false, ◌↔◌, ℤ, pos, ◌-ℤ◌, neg_ℤ, ◌∙◌, subst, arith, w64, SFits}
-use Rattle.std.specs.Prelude.{Option, Result, Ok, Err}
-use Rattle.std.specs.Option.{SomeIff}
-use Rattle.std.specs.Result.{OkIff, result_ok}
-use lib.IntN.{+ℤ_idl}
+-- `integers::with_sign` meets its contract: each way out is one case of the definition.
+use Rattle.std.proofs.Common.{◌≡◌, ℕ, zero, suc, ◌+◌, ◌-◌, ◌%◌, ◌^◌, ◌≤◌, ◌<◌, Bool, true, false, ℤ, pos, neg_ℤ, sym, refl, ap, ◌∙◌, arith, w64, SFits, to_z, of_z}
+use Rattle.std.specs.Prelude.{Some, None}
+use mir.ValLaws.{to_z-of_z, to_z_pos, to_z-neg}
 use Rattle.integers.specs.Words.{signed_by, signed_word}
-use Rattle.integers.proofs.Words.{word-iff}
+use Rattle.integers.proofs.Words.{word-within, word-beyond}
 use Rattle.integers.proofs.with_sign.Goals as goal
 
-below_fits : (n : ℕ) → SFits w64 (neg_ℤ (pos n)) ↔ (n ≤ 2 ^ 63)
-below_fits zero = (λ f. omega arith, λ h. record { sfits = omega arith })
-below_fits (suc k) = (λ f. omega (arith, f.sfits), λ h. record { sfits = omega arith })
+-- the machine's 0 - n
+lowered : (n : ℕ) → n ≤ 2 ^ 63 → to_z w64 ((0 + (2 ^ 64 - n)) % 2 ^ 64) ≡ neg_ℤ (pos n)
+lowered zero h = refl
+lowered (suc k) h = let e : (0 + (2 ^ 64 - suc k)) % 2 ^ 64 ≡ 2 ^ 64 - suc k = omega arith in rw e (to_z-neg w64 k (omega arith))
 
-below : (o : Option ℤ) (n : ℕ) (negative : Bool) → negative ≡ true → SomeIff o (SFits w64 (pos 0 -ℤ pos n)) (pos 0 -ℤ pos n) → o ≡ signed_word n negative
+below_fits : (n : ℕ) → n ≤ 2 ^ 63 → SFits w64 (neg_ℤ (pos n))
+below_fits zero h = record { sfits = omega arith }
+below_fits (suc k) h = record { sfits = omega arith }
+
+below : (z : ℤ) (n : ℕ) (negative : Bool) → negative ≡ true → n ≤ 2 ^ 63 → z ≡ to_z w64 ((0 + (2 ^ 64 - n)) % 2 ^ 64) → Some (to_z w64 (of_z w64 z)) ≡ signed_word n negative
 unfolding signed_by
-below o n negative e h = rw e (
-    word-iff o n true (SFits w64 (neg_ℤ (pos n))) (subst (λ (z : ℤ). SomeIff o (SFits w64 z) z) (+ℤ_idl (neg_ℤ (pos n))) h) (below_fits n))
+below z n negative e h is = rw (is ∙ lowered n h) (ap Some (to_z-of_z w64 (neg_ℤ (pos n)) (below_fits n h)) ∙ sym (rw e (word-within n true h)))
 
-pub returns-then-negative : goal.returns-then-negative
-returns-then-negative c = below c.checked_sub_unsigned.result c.args.size c.args.negative c.if-negative.true c.checked_sub_unsigned.ensures
+pub returns-then-size-le-LOWEST : goal.returns-then-size-le-LOWEST
+returns-then-size-le-LOWEST c = below c.wrapping_sub_unsigned.result c.args.size c.args.negative c.if-negative.true (omega arith) c.wrapping_sub_unsigned.ensures
 
-above_fits : (n : ℕ) → SFits w64 (pos n) ↔ (n ≤ 2 ^ 63 - 1)
-above_fits n = (λ f. omega (arith, f.sfits), λ h. record { sfits = omega arith })
+too-low : (n : ℕ) (negative : Bool) → negative ≡ true → 2 ^ 63 < n → None ≡ signed_word n negative
+too-low n negative e h = sym (rw e (word-beyond n true h))
 
-ok-iff : {E : Type 0} (r : Result ℤ E) (n : ℕ) → OkIff r (SFits w64 (pos n)) (pos n) → SomeIff (result_ok r) (SFits w64 (pos n)) (pos n)
-ok-iff (Ok z) n h = h
-ok-iff (Err e) n h = h
+pub returns-else-size-le-LOWEST : goal.returns-else-size-le-LOWEST
+returns-else-size-le-LOWEST c = too-low c.args.size c.args.negative c.if-negative.true (omega arith)
 
-above : (o : Option ℤ) (n : ℕ) (negative : Bool) → negative ≡ false → SomeIff o (SFits w64 (pos n)) (pos n) → o ≡ signed_word n negative
+above : (n : ℕ) (negative : Bool) → negative ≡ false → n < 2 ^ 63 → Some (to_z w64 n) ≡ signed_word n negative
 unfolding signed_by
-above o n negative e h = rw e (word-iff o n false (SFits w64 (pos n)) h (above_fits n))
+above n negative e h = ap Some (to_z_pos w64 n h) ∙ sym (rw e (word-within n false (omega arith)))
 
-pub returns : goal.returns
-returns c = c.ok.ensures.value ∙ above _ c.args.size c.args.negative c.if-negative.false (ok-iff c.try_from.result c.args.size c.try_from.ensures)
+pub returns-then-size-le-LARGEST : goal.returns-then-size-le-LARGEST
+returns-then-size-le-LARGEST c = above c.args.size c.args.negative c.if-negative.false (omega arith)
+
+too-high : (n : ℕ) (negative : Bool) → negative ≡ false → 2 ^ 63 ≤ n → None ≡ signed_word n negative
+too-high n negative e h = sym (rw e (word-beyond n false (omega arith)))
+
+pub returns-else-size-le-LARGEST : goal.returns-else-size-le-LARGEST
+returns-else-size-le-LARGEST c = too-high c.args.size c.args.negative c.if-negative.false (omega arith)

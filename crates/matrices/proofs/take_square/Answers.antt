@@ -1,7 +1,7 @@
 -- `matrices::take_square` meets its contract: a size of 2^32 or more has a square above every word.
 use Rattle.std.proofs.Common.{◌≡◌, nat_abs, ap, ◌∙◌, mul-le-mul, arith, w64}
 use mir.ValLaws.{to_z-of_z}
-use Rattle.matrices.proofs.Lengths.{square_above, square-taken}
+use Rattle.matrices.proofs.Lengths.{square-within, square_above}
 use Rattle.matrices.proofs.take_square.Goals as goal
 use Rattle.matrices.proofs.take_square.Goals.{After-size-w}
 
@@ -15,5 +15,13 @@ returns-then-w-gt4294967295 c =
     square_above c.args.left w c.args.x (size_is (goal.at.returns-then-w-gt4294967295 c).After-size-w)
     (omega (arith, mul-le-mul {n₁ = 4294967296} {m₁ = 4294967296} {n₂ = w} {m₂ = w} (omega arith) (omega arith)))
 
+pub overflow_mul-square : goal.overflow_mul-square
+overflow_mul-square c =
+    let w = c.size-w.result in
+    omega (arith, mul-le-mul {n₁ = w} {m₁ = w} {n₂ = 4294967295} {m₂ = 4294967295} (omega arith) (omega arith))
+
+pub returns-then-left-square : goal.returns-then-left-square
+returns-then-left-square c = square_above c.args.left c.size-w.result c.args.x (size_is (goal.at.returns-then-left-square c).After-size-w) (omega arith)
+
 pub returns : goal.returns
-returns c = square-taken c.args.left c.size-w.result c.args.x (size_is (goal.at.returns c).After-size-w) c.checked_sub.result c.checked_sub.ensures
+returns c = square-within c.args.left c.size-w.result c.args.x (size_is (goal.at.returns c).After-size-w) (omega arith)

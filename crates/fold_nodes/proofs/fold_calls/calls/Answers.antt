@@ -135,7 +135,7 @@ unfolding answer_of
 returns-clause-answer c =
     let s = (goal.at.returns-clause-answer c).Start in
     let m = c.message.new in
-    let v = c.verify in
+    let v = c.verify-judged in
     ap (λ (o : Outcome Node). o.answer)
     (calls-end (p s) s.args.a.now (first s) (second s) s.args.c.now (out s) (ends done (as_prepared m.v m.tt m.dd m.ss)) (ends done c.fold_witness.new.s)
     (ends (verdict_of v.result) (counted (as_instance v.new.t v.new.d) (verdict_leaves v.result))) (verdict_of v.result) _
@@ -146,7 +146,7 @@ unfolding answer_of
 returns-clause-node c =
     let s = (goal.at.returns-clause-node c).Start in
     let m = c.message.new in
-    let v = c.verify in
+    let v = c.verify-judged in
     of_ok v.result
     (calls-end (p s) s.args.a.now (first s) (second s) s.args.c.now (out s) (ends done (as_prepared m.v m.tt m.dd m.ss)) (ends done c.fold_witness.new.s)
     (ends (verdict_of v.result) (counted (as_instance v.new.t v.new.d) (verdict_leaves v.result))) (verdict_of v.result) _

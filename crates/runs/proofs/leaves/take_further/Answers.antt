@@ -9,7 +9,7 @@ use Rattle.runs.proofs.leaves.take_further.Goals as goal
 
 pub returns-in-Err-clause-taken : goal.returns-in-Err-clause-taken
 unfolding stage_of take_due
-returns-in-Err-clause-taken c = c.refuse.ensures.whatever _ ∙ ap (refuse (counts_of c.args.run.now)) c.number.ensures ∙ sym (c.in-Err.ensures _ _)
+returns-in-Err-clause-taken c = c.refuse.ensures.whatever _ ∙ ap (refuse (counts_of c.args.run.now)) c.number.ensures ∙ sym (c.in-Err.ensures.comes_to _ _)
 
 -- the new leaf's count is 1
 pub returns-in-Ok-clause-taken : goal.returns-in-Ok-clause-taken
@@ -18,5 +18,5 @@ returns-in-Ok-clause-taken c =
     let p = numbers_in c.args.small in
     let r = c.args.run.now in
     let m = c.args.store.now in
-    ap₂ (λ (leaves : ℕ) (o : List ℕ). step (tally (r.line + 1) (r.leaves + 1) r.folds) (challenge p (part_A p m.a) (node_in p m.first r.under) (node_in p c.in-Ok.leaf.slot leaves)) o) (sym c.in-Ok.ensures.0) c.put.ensures.1
-    ∙ sym (c.in-Ok.ensures.1 _ _)
+    ap₂ (λ (leaves : ℕ) (o : List ℕ). step (tally (r.line + 1) (r.leaves + 1) r.folds) (challenge p (part_A p m.a) (node_in p m.first r.under) (node_in p c.in-Ok.leaf.slot leaves)) o) (sym c.in-Ok.ensures.comes_to.0) c.put.ensures.1
+    ∙ sym (c.in-Ok.ensures.comes_to.1 _ _)

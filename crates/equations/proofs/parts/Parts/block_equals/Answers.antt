@@ -12,7 +12,7 @@ use Rattle.matrices.specs.Matrices.{Matrix}
 use Rattle.lova.specs.Tests.{eq_Z}
 use Rattle.equations.specs.Blocks.{equal_both}
 use Rattle.equations.specs.Parts.{joined_D, summed_D}
-use Rattle.equations.proofs.Compared.{bits-test}
+use Rattle.lova.proofs.Comparisons.{bits-test}
 use Rattle.equations.proofs.Recomposed.{handed, rows-below, small, by_rows}
 use Rattle.equations.proofs.parts.Parts.block_equals.Goals as goal
 use Rattle.equations.proofs.parts.Parts.block_equals.Goals.{After-weighted_block-block}
